@@ -1,0 +1,6 @@
+pub mod Machine
+pub mod Sets
+pub mod Reach
+pub mod Stuck
+pub mod Parts
+pub mod Sure

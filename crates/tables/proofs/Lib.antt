@@ -1,0 +1,10 @@
+pub mod Passing
+pub mod Numbers
+pub mod Heads
+pub mod Everys
+pub mod Slices
+pub mod Tabled
+pub mod Orders
+pub mod Counting
+pub mod Classed
+pub mod Kept

@@ -1,0 +1,7 @@
+pub mod Words
+pub mod Layout
+pub mod Classes
+pub mod Checks
+pub mod Verdicts
+pub mod Laid
+pub mod Meaning
