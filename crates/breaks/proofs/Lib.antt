@@ -1,0 +1,3 @@
+pub mod CharLaws
+pub mod ScanLaws
+pub mod TableLaws

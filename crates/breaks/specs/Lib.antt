@@ -1,0 +1,4 @@
+pub mod Chars
+pub mod Tables
+pub mod Meaning
+pub mod Pages
