@@ -1,3 +1,4 @@
 pub mod CharLaws
 pub mod ScanLaws
 pub mod TableLaws
+pub mod Backs

@@ -1,14 +1,25 @@
 -- What the bounds of a rule give of its cuttings.
 use mathlib.Core.Path.{_≡_, refl, sym, ap, _∙_}
 use mathlib.Core.List.{List, [], _∷_, _++_}
-use Prim.Native.Nat.{ℕ, zero, suc, _+_, _≤_, _<_}
+use Prim.Native.Nat.{ℕ, zero, suc, _+_, _-_, _≤_, _<_}
 use native.Mathlib.Omega.{arith}
-use lib.ListN.{length, drop, length-drop, length-append}
-use Rattle.std.proofs.shelf.Lists.{drop-drop, drop-append-le}
-use Rattle.rules.specs.Cutting.{cut, cutting, Bounded, Joined}
+use lib.ListN.{length, take, drop, getD, length-drop, length-append}
+use Rattle.std.proofs.shelf.Lists.{drop-drop, drop-append-le, getD-drop, getD-take, length-take-le}
+use Rattle.rules.specs.Cutting.{cut, cutting, Bounded, Joined, last}
 
 pub shorter : (k n : ℕ) (xs : List ℕ) → 1 ≤ k → length xs ≤ suc n → length (drop k xs) ≤ n
 shorter k n xs h l = simp length-drop (omega arith)
+
+-- the last byte of what remains, and of what lies before a place
+pub last-drop : (k : ℕ) (xs : List ℕ) → 1 ≤ length (drop k xs) → last (drop k xs) ≡ last xs
+last-drop k xs h =
+    let e = length-drop k xs in
+    let i : k + (length (drop k xs) - 1) ≡ length xs - 1 = omega arith in
+    getD-drop k xs (length (drop k xs) - 1) 0 ∙ ap (λ j. getD xs j 0) i
+
+pub last-take : (text : List ℕ) (place : ℕ) → 1 ≤ place → place ≤ length text → last (take place text) ≡ getD text (place - 1) 0
+last-take text place h l =
+    ap (λ j. getD (take place text) (j - 1) 0) (length-take-le place text l) ∙ getD-take place text (place - 1) 0 (omega arith)
 
 module _ (run : List ℕ → ℕ) (b : Bounded run) where
   -- more turns than bytes change nothing
@@ -41,6 +52,15 @@ module _ (run : List ℕ → ℕ) (b : Bounded run) where
   cutting-from text at end h e =
       cutting-some (drop at text) (simp length-drop (omega arith))
       ∙ ap (λ l. run (drop at text) ∷ cutting run l) (drop-drop (run (drop at text)) at text ∙ ap (λ n. drop n text) (sym e))
+
+  -- and where that end lies
+  pub end-inside : (text : List ℕ) (at end : ℕ) → at < length text → end ≡ at + run (drop at text) → (at < end) × (end ≤ length text)
+  end-inside text at end h e =
+      let l = length-drop at text in
+      let full : 1 ≤ length (drop at text) = omega arith in
+      let some = b .some (drop at text) full in
+      let within = b .within (drop at text) full in
+      (omega arith, omega arith)
 
   -- a text has no more runs than bytes
   cut-few : (n : ℕ) (xs : List ℕ) → length xs ≤ n → length (cut run n xs) ≤ length xs

@@ -1,8 +1,8 @@
 -- How a rule cuts a text. A rule is known by `run`, the length of the first run of a list of bytes that is not empty.
 use mathlib.Core.Path.{_≡_}
 use mathlib.Core.List.{List, [], _∷_, _++_}
-use Prim.Native.Nat.{ℕ, zero, suc, _≤_}
-use lib.ListN.{length, drop}
+use Prim.Native.Nat.{ℕ, zero, suc, _-_, _≤_}
+use lib.ListN.{length, drop, getD}
 
 -- the lengths of the first runs of a text, at most n of them
 unfoldable pub cut : (List ℕ → ℕ) → ℕ → List ℕ → List ℕ
@@ -23,3 +23,10 @@ pub record Bounded (run : List ℕ → ℕ) : Type 0 where
 -- two texts are cut apart: the cutting of both joined is that of the first followed by that of the second
 abbrev pub Joined : (List ℕ → ℕ) → List ℕ → List ℕ → Type 0
 Joined run before after = cutting run (before ++ after) ≡ cutting run before ++ cutting run after
+
+-- the first byte and the last byte of a text that is not empty
+abbrev pub first : List ℕ → ℕ
+first xs = getD xs 0 0
+
+abbrev pub last : List ℕ → ℕ
+last xs = getD xs (length xs - 1) 0

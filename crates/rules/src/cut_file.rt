@@ -11,8 +11,8 @@ use crate::rule::Rule;
 use crate::rule::run_end;
 use refusals::Refusal;
 
-// How many runs a text has.
-fn count_runs<R: Rule>(rule: &R, text: &[u8]) -> usize
+/// How many runs a text has, where no rule refuses it.
+pub fn count_runs<R: Rule>(rule: &R, text: &[u8]) -> usize
     requires { ⌜ length (now text) ≤ 16383 ⌝ }
     ensures { λ r. ⌜ r ≡ length (cutting (run (now (rule .entry))) (now (text .entry))) ⌝ }
 {

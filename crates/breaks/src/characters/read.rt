@@ -5,7 +5,9 @@ ghost use lib.ListN.{length, drop};
 ghost use Rattle.tables.specs.Layout.{classes};
 ghost use Rattle.tables.specs.Meaning.{bytes-of};
 ghost use Rattle.breaks.specs.Chars.{char};
+ghost use Rattle.tables.specs.Classes.{leads};
 ghost use Rattle.breaks.specs.Meaning.{characters, character-of};
+ghost use Rattle.breaks.specs.Places.{covering};
 use super::Character;
 use refusals::Refusal;
 use rules::LIMIT;
@@ -30,6 +32,20 @@ pub fn character_at(table: &Table, text: &[u8], place: usize) -> Character
         size: 2,
         class: table.two_byte_class(first, text[place + 1]),
     }
+}
+
+/// Where the character begins that covers a place inside the text, with characters counted from the text's start. Only
+/// the first bytes that stand in a row before the place are looked at.
+pub fn character_start(table: &Table, text: &[u8], place: usize) -> usize
+    requires { ⌜ place < length (now text) ⌝ }
+    ensures value { λ r. ⌜ r ≡ covering (leads (bytes-of (now (table .entry)))) (now (text .entry)) place ⌝ }
+    ensures within { λ r. ⌜ r ≤ place ⌝ }
+{
+    let mut at = place;
+    while at > 0 && table.is_first_byte(text[at - 1]) {
+        at -= 1;
+    }
+    place - (place - at) % 2
 }
 
 /// The character at a place of a text, counted from there: its length and its class.

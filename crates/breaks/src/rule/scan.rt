@@ -1,13 +1,16 @@
 ghost use mathlib.Core.List.{List};
-ghost use Rattle.breaks.specs.Meaning.{run-of};
+ghost use Rattle.breaks.specs.Meaning.{run-of, parts-of};
 use super::TableRule;
 use crate::characters::read::character_at;
+use crate::characters::read::character_start;
 use refusals::Refusal;
 use rules::LIMIT;
 use rules::Rule;
 
 pub impl Rule for TableRule as ByTable {
     ghost run = { run-of };
+
+    ghost parts = { parts-of };
 
     fn end(&self, text: &[u8], place: usize) -> Result<usize, Refusal> {
         if text.len() > LIMIT {
@@ -32,5 +35,24 @@ pub impl Rule for TableRule as ByTable {
             at += here.size;
         }
         Ok(at)
+    }
+
+    fn wall(&self, text: &[u8], place: usize) -> Result<bool, Refusal> {
+        if text.len() > LIMIT {
+            return Err(Refusal::TextTooLong(text.len()));
+        }
+        if place >= text.len() {
+            return Err(Refusal::PlaceOutside(place));
+        }
+        if place == 0 {
+            return Ok(true);
+        }
+        let start = character_start(&self.table, text, place - 1);
+        let before = character_at(&self.table, text, start);
+        if start + before.size != place {
+            return Ok(false);
+        }
+        let after = character_at(&self.table, text, place);
+        Ok(self.table.is_sure(before.class, after.class))
     }
 }

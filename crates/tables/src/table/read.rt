@@ -50,6 +50,13 @@ impl Table {
         self.bytes[self.layout.class_place + byte as usize]
     }
 
+    /// Whether a byte is a first byte.
+    pub fn is_first_byte(&self, byte: u8) -> bool
+        ensures { λ r. ⌜ r ≡ leads (bytes-of (now (self .entry))) byte ⌝ }
+    {
+        self.one_byte_class(byte).is_none()
+    }
+
     /// The class of a one-byte character, or none for a first byte.
     pub fn one_byte_class(&self, byte: u8) -> Option<usize>
         ensures { λ r. ⌜ BySome r (leads (bytes-of (now (self .entry))) byte ≡ true) (λ c. (leads (bytes-of (now (self .entry))) byte ≡ false) × (c ≡ one-class (bytes-of (now (self .entry))) byte)) ⌝ }

@@ -3,6 +3,7 @@ use mathlib.Core.List.{List, _∷_, _++_, append-nil}
 use Prim.Native.Nat.{ℕ, _+_, _*_, _<_, _≤_}
 use native.Mathlib.Omega.{arith}
 use lib.ListN.{length, take, drop}
+use borrow.Author.Needs.{needs}
 use Rattle.std.proofs.shelf.Lists.{drop-all, drop-drop}
 use Rattle.rules.specs.Cutting.{cutting, Bounded}
 use Rattle.rules.specs.CutFiles.{record-of, records, cut-file, file-size}
@@ -40,7 +41,7 @@ loop-at-again g c =
     let f = fewer run b text at end (omega arith) (c .run-end-end .ensures .value) in
     let r = c .pre .room in
     let room : n + 4 ≤ length buffer = omega arith in
-    let was = c .write-record .ensures in (
+    let was : c .write-record .last .buffer ≡ take n buffer ++ (record-of at end ++ drop (n + 4) buffer) = search needs in (
       c .run-end-end .ensures .within,
       omega arith,
       ap (λ (l : List ℕ). take (n + 4) l ++ records end (cutting run (drop end text))) was
