@@ -35,10 +35,11 @@ returns-then-not-entry-is-sound c =
     let at = c .class-table-place-at .ensures in
     let n = part-size b (c .class-table-place-at .result) 256 (at .bound) in
     let v = c .loop-entry .entry-index in
-    let told : class-table b + v ≡ c .class-table-place-at .result + c .loop-entry .value = let e = at .value in let counted = c .loop-entry .inv .0 in omega arith in
+    let e = at .value in
+    let counted = c .loop-entry .inv .0 in
     each-fails (λ v. (entry-sound b (entry b v), ClassWrong (class-table b + v))) 0 256 v (omega arith) (omega arith) (λ j lo hi. c .loop-entry .inv .1 j hi)
     (sym (here b (c .class-table-place-at .result) v (at .value) (at .bound)) ∙ sym (c .entry-is-sound .ensures) ∙ c .if-not-entry-is-sound .taken)
-    ∙ ap (λ (p : ℕ). Some (ClassWrong p)) told
+    ∙ ap (λ (p : ℕ). Some (ClassWrong p)) (omega arith)
 
 pub returns : need.returns
 returns c =

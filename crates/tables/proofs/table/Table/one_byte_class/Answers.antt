@@ -17,7 +17,8 @@ pub returns-then-entry-lt128 : need.returns-then-entry-lt128
 returns-then-entry-lt128 c =
     let b = bytes-of (c .args .self .now) in
     let is : entry b (c .args .byte) ≡ pos (c .entry-entry .result) = sym (c .entry-entry .ensures) ∙ byte-above (c .entry-entry .result) (c .if-entry-lt128 .taken) in
-    (cond-true _ _ _ (ap nonNeg is), sym (ap natAbs is))
+    let class = ap natAbs is in
+    (cond-true _ _ _ (ap nonNeg is), omega arith)
 
 pub returns-else-entry-lt128 : need.returns-else-entry-lt128
 returns-else-entry-lt128 c =

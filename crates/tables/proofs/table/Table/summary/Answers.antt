@@ -1,5 +1,6 @@
 use mathlib.Core.Path.{_≡_, _∙_}
 use Prim.Native.Nat.{ℕ}
+use borrow.Author.Needs.{needs}
 use mathlib.Core.Bool.{false}
 use Rattle.std.proofs.shelf.Ways.{same-from-decides}
 use Rattle.refusals.specs.declared.Direction.the-variants.{Forward}
@@ -19,8 +20,8 @@ returns c =
     let C = classes b in
     let rows = t .sure .rows in
     record {
-      states-is = t .«state_total_is»;
-      classes-is = t .«class_total_is»;
+      states-is = search needs;
+      classes-is = search needs;
       sure-is = λ test tells.
           c .count .ensures
           ∙ pairs-within (holds rows) C 128 (classes-high b (list-passes b (table-passes t) Forward)) (t .«none_first») (t .«none_second»)

@@ -87,8 +87,10 @@ returns-then-k-eq0 c =
     let s = c .as-slice-bytes .result .now in
     let e = c .entry .result in
     let small : e < 256 = let o = c .entry .ok in omega arith in
-    c .even-class-of .ensures ∙ ap natAbs (sym (cond-true (even (256 - e)) _ _ (eq-eqb _ _ (c .if-k-eq0 .taken))))
-    ∙ class-is b s (c .args .first) e (table-passes (c .args .self .now)) (c .as-slice-bytes .ensures .value) (c .pre) (c .entry .ensures) small (c .args .second)
+    let chosen = ap natAbs (cond-true (even (256 - e)) (even-class s (256 - e) (c .args .second)) (odd-class s (256 - e)) (eq-eqb _ _ (c .if-k-eq0 .taken))) in
+    let is = class-is b s (c .args .first) e (table-passes (c .args .self .now)) (c .as-slice-bytes .ensures .value) (c .pre) (c .entry .ensures) small (c .args .second) in
+    let told = c .even-class-of .ensures in
+    omega arith
 
 pub returns-else-k-eq0 : need.returns-else-k-eq0
 returns-else-k-eq0 c =

@@ -1,5 +1,6 @@
 use mathlib.Core.Path.{_≡_, sym, ap, _∙_}
 use Prim.Native.Nat.{ℕ}
+use borrow.Author.Needs.{needs}
 use Rattle.std.proofs.shelf.Ways.{same-from-decides}
 use Rattle.refusals.specs.declared.Direction.the-variants.{Forward}
 use Rattle.automata.specs.Sure.{holds}
@@ -15,11 +16,12 @@ returns c =
     let C = classes b in
     let e = c .in-Continue-judgement .ensures tt in
     let s = e .sure-bits in
+    let laid = e .is-laid in
     let rows = c .in-Continue-judgement .judgement .sure .rows in (
       e .is-sound,
       record {
-        states-is = e .is-laid .state-total-is;
-        classes-is = e .is-laid .class-total-is;
+        states-is = search needs;
+        classes-is = search needs;
         sure-is = λ test tells.
             c .count .ensures
             ∙ pairs-within (holds rows) C 128 (classes-high b (list-passes b (e .is-sound .passes) Forward)) (s .none-first) (s .none-second)
