@@ -6,4 +6,6 @@ mod tools;
 #[cfg(test)]
 mod verdicts;
 #[cfg(test)]
+mod walls;
+#[cfg(test)]
 mod wide;

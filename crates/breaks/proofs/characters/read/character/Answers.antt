@@ -13,5 +13,6 @@ returns c =
     let b = bytes-of (c .args .table .now) in
     let text = c .args .text .now in
     let place = c .args .place in
-    answers text place (first-of (characters b (drop place text))) (omega arith) (omega arith) (c .character-at .result)
-    (sym (ap first-of (c .character-at .ensures .reads)))
+    let is = ap first-of (c .character-at .ensures .reads) in
+    let same : c .character-at .result ≡ first-of (characters b (drop place text)) = cc in
+    answers text place (first-of (characters b (drop place text))) (omega arith) (omega arith) (c .character-at .result) same

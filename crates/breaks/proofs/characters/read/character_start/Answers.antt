@@ -24,4 +24,5 @@ returns c =
       | else-loop-at-test w ↦ let z : c .loop-at .at ≡ 0 = let l = w .loop-at-test .left in omega arith in ap (leads-before lead text) z
     ] in
     let all : leads-before lead text (c .args .place) ≡ c .args .place - c .loop-at .at = omega arith in
-    record { value = ap (λ (n : ℕ). c .args .place - n % 2) (sym all); within = omega arith }
+    let parity = ap (λ (n : ℕ). n % 2) all in
+    record { value = omega arith; within = omega arith }

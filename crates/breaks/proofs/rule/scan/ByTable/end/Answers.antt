@@ -61,7 +61,8 @@ returns-then-state-eq0 c =
     ] in
     let exit =
     go-exits (machine b Forward) (c .loop-at .state) at (c .loop-at .mark) (c .code-code .result) (characters b (drop at text)) (char (u .size) (u .class)) (characters b (drop (at + u .size) text)) (e .reads) (c .code-code .ensures .value) (c .if-state-eq0 .taken) in
-    answers text (c .args .place) _ (c .if-text-gt-LIMIT .left) (c .if-place-text .left) (c .if-code-ge128 .mark) (mark ∙ sym exit ∙ c .loop-at .inv .3)
+    let left = c .loop-at .inv .3 in
+    answers text (c .args .place) _ (c .if-text-gt-LIMIT .left) (c .if-place-text .left) _ (omega arith)
 
 pub returns : need.returns
 returns c =

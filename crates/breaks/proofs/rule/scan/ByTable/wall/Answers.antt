@@ -48,8 +48,10 @@ returns c =
     let f = c .character-at-after .ensures in
     let v = c .character-at-after .result in
     let first : 1 ≤ place = let ne = c .if-place-eq0 .left in omega arith in
-    answers text place (wall-at (parts-of r) text place) (c .if-text-gt-LIMIT .left) (c .if-place-text .left) (c .is-sure .result)
-    (c .is-sure .ensures
-    ∙ sym (walled r text place first (c .if-place-text .left)
+    let is =
+    walled r text place first (c .if-place-text .left)
     ∙ parted-between (leads b) (one-class b) (two-class b) (holds (r .table .sure .rows)) text place (omega arith) (c .if-place-text .left) (c .character-start-start .result) (c .character-start-start .ensures .value) (char (u .size) (u .class)) (e .some) (e .reads) (c .if-start-before .left)
-    (char (v .size) (v .class)) (characters b (drop (place + v .size) text)) (f .reads)))
+    (char (v .size) (v .class)) (characters b (drop (place + v .size) text)) (f .reads) in
+    let told = c .is-sure .ensures in
+    let same : _≡_ {A = Bool} (c .is-sure .result) (wall-at (parts-of r) text place) = cc in
+    answers text place (wall-at (parts-of r) text place) (c .if-text-gt-LIMIT .left) (c .if-place-text .left) (c .is-sure .result) same
