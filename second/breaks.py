@@ -1,8 +1,10 @@
-"""Texts cut by a break table: a plain reading of docs/FORMAT.md, docs/REFUSALS.md and docs/PROGRAMS.md.
+"""Texts cut by rules: a plain reading of docs/FORMAT.md, docs/RULES.md, docs/REFUSALS.md and docs/PROGRAMS.md.
 
 Everything here is done in the most direct way that the documents allow; nothing is made fast.
 
     python3 second/breaks.py cut              does what the program `cut` does, in the current folder
+    python3 second/breaks.py inspect          does what the program `inspect` does
+    python3 second/breaks.py walls            does what the program `walls` does
     python3 second/breaks.py show TABLE TEXT  tells people what the table does with the text
 """
 
@@ -163,8 +165,44 @@ def try_codes(data, part, offset, states, classes):
             raise Refused(6, part, place)
 
 
-class Table:
-    """An accepted break table. `states` is S of the forward table, `classes` is C."""
+# Rules
+
+
+class Rule:
+    """What every rule answers. A rule of its own kind says what run and stands are."""
+
+    def run(self, text):
+        """The length of the first run of a text that is not empty."""
+        raise NotImplementedError
+
+    def stands(self, text, place):
+        """Whether a wall stands between the bytes before a place of a text and the rest, neither of them empty."""
+        raise NotImplementedError
+
+    def end(self, text, place):
+        """Where the first run of what begins at a place of a text ends."""
+        try_text(text)
+        try_place(text, place)
+        return place + self.run(text[place:])
+
+    def cutting(self, text):
+        """All runs of a text, a list of (start, end): its first run, then the cutting of what remains."""
+        return cutting_by(self.end, text)
+
+    def wall(self, text, place):
+        """Whether a wall is at a place of a text: always at place 0."""
+        try_text(text)
+        try_place(text, place)
+        return place == 0 or self.stands(text, place)
+
+    def walls(self, text):
+        """The places of a text at which walls are, rising."""
+        try_text(text)
+        return [place for place in range(len(text)) if self.wall(text, place)]
+
+
+class Table(Rule):
+    """The table rule: an accepted break table. `states` is S of the forward table, `classes` is C."""
 
     def __init__(self, data, two_byte, class_at, aux_at, forward_at, states, classes):
         self.data = data
@@ -174,6 +212,7 @@ class Table:
         self.forward_at = forward_at
         self.states = states
         self.classes = classes
+        self.sure = None  # the sure pairs, once they were asked for
 
     # Codes
 
@@ -278,9 +317,130 @@ class Table:
         try_place(text, place)
         return self.scan(text, place)[0]
 
+    def run(self, text):
+        """The length of the first run of a text that is not empty."""
+        return self.end(text, 0)
+
+    # Walls
+
+    def reached(self):
+        """Start, and the states that some row of classes reaches from start without exit."""
+        found = {1}
+        waiting = deque([1])
+        while waiting:
+            state = waiting.popleft()
+            for char_class in range(self.classes):
+                _, following = self.code(state, char_class)
+                if following != 0 and following not in found:
+                    found.add(following)
+                    waiting.append(following)
+        return found
+
+    def sure_pairs(self):
+        """The sure pairs of classes: a set of (a, b)."""
+        if self.sure is None:
+            self.sure = set()
+            states = self.reached()
+            for a in range(self.classes):
+                after_a = {self.code(state, a)[1] for state in states} - {0}
+                for b in range(self.classes):
+                    if all(self.code(state, b) == (True, 0) for state in after_a):
+                        self.sure.add((a, b))
+        return self.sure
+
+    def stands(self, text, place):
+        """Whether the characters that meet at a place, counted from place 0, have a sure pair of classes."""
+        before = None
+        for start, _, char_class in self.chars(text):
+            if start == place:
+                return (before, char_class) in self.sure_pairs()
+            before = char_class
+        return False  # no character place
+
+    def walls(self, text):
+        """The places of a text at which walls are; the characters are counted but once for all of them."""
+        try_text(text)
+        found = []
+        before = None
+        for start, _, char_class in self.chars(text):
+            if start == 0 or (before, char_class) in self.sure_pairs():
+                found.append(start)
+            before = char_class
+        return found
+
+
+class Line(Rule):
+    """The line rule."""
+
+    def run(self, text):
+        """The length of the first run: up to and with its first byte 13, or the whole text."""
+        return line_end(text, 0)
+
+    def end(self, text, place):
+        """Where the run from a place of a text ends."""
+        return line_end(text, place)
+
+    def stands(self, text, place):
+        """Whether the byte before a place is 13."""
+        return text[place - 1] == 13
+
+
+class Layer(Rule):
+    """A rule that joins some runs of the rule below, those that a byte tells. A layer of its own kind says what
+    joins is."""
+
+    def __init__(self, below, byte):
+        if not 0 <= byte <= 255:
+            raise ValueError("a byte is 0 to 255")
+        self.below = below
+        self.byte = byte
+
+    def joins(self, text, place):
+        """Whether the two runs below that meet at a place are joined."""
+        raise NotImplementedError
+
+    def run(self, text):
+        """The length of the first run: the first run below, and the next ones as long as they are joined to it."""
+        try_text(text)
+        try_place(text, 0)
+        size = self.below.run(text)
+        while size < len(text) and self.joins(text, size):
+            size += self.below.run(text[size:])
+        return size
+
     def cutting(self, text):
-        """All runs of a text: a list of (start, end)."""
-        return cutting_by(self.end, text)
+        """All runs of a text: those of the cutting below, joined."""
+        runs = []
+        for start, stop in self.below.cutting(text):
+            if runs and self.joins(text, start):
+                runs[-1] = (runs[-1][0], stop)
+            else:
+                runs.append((start, stop))
+        return runs
+
+    def stands(self, text, place):
+        """Whether a wall stands below, and runs that met here would not be joined."""
+        return self.below.stands(text, place) and not self.joins(text, place)
+
+    def walls(self, text):
+        """The places of a text at which walls are: place 0, and of the others below those that are left."""
+        return [place for place in self.below.walls(text) if place == 0 or not self.joins(text, place)]
+
+
+class Joint(Layer):
+    """The joint layer: a run below whose last byte is the layer's byte takes in the next run."""
+
+    def joins(self, text, place):
+        """Whether the byte before a place is the layer's."""
+        return text[place - 1] == self.byte
+
+
+class Tail(Layer):
+    """The tail layer: a run takes in the next run while that one starts with the layer's byte."""
+
+    def joins(self, text, place):
+        """Whether the byte after a place is the layer's."""
+        return text[place] == self.byte
 
 
 # Texts
@@ -329,7 +489,7 @@ def line_cutting(text):
     return cutting_by(line_end, text)
 
 
-# The cut file and the program
+# The cut file and the programs
 
 
 def cut_file(runs):
@@ -347,6 +507,64 @@ def cut(table_bytes, text_bytes):
     try:
         table = accept(table_bytes)
         return cut_file(table.cutting(text_bytes))
+    except Refused as refused:
+        return refused.line().encode("ascii") + b"\n"
+
+
+def inspect(table_bytes):
+    """What the program `inspect` writes; the table is b"" where its file is missing."""
+    try:
+        table = accept(table_bytes[:TABLE_MOST])
+    except Refused as refused:
+        return refused.line().encode("ascii") + b"\n"
+    return b"states %d classes %d sure %d\n" % (table.states, table.classes, len(table.sure_pairs()))
+
+
+LAYERS = {b"joint": Joint, b"tail": Tail}
+BYTES = {b"%d" % value: value for value in range(256)}  # a byte in decimal, without leading zeros
+RULE_MOST = len(b"rule table joint 255 joint 255\n")  # no first line that names a rule has more bytes
+
+
+def named(line):
+    """What a first line, without its LF, names: b"table" or b"line", and a list of layers, lowest first, each its
+    class and its byte. None where the line is of another make."""
+    words = line.split(b" ")
+    if len(words) not in (2, 4, 6) or words[0] != b"rule" or words[1] not in (b"table", b"line"):
+        return None
+    layers = []
+    for kind, byte in zip(words[2::2], words[3::2]):
+        if kind not in LAYERS or byte not in BYTES:
+            return None
+        layers.append((LAYERS[kind], BYTES[byte]))
+    return words[1], layers
+
+
+def stacked(rule, layers):
+    """A rule with layers on it, lowest first."""
+    for kind, byte in layers:
+        rule = kind(rule, byte)
+    return rule
+
+
+def places(name, numbers):
+    """A line that `walls` writes."""
+    return b" ".join([name] + [b"%d" % number for number in numbers]) + b"\n"
+
+
+def walls(table_bytes, stdin_bytes):
+    """What the program `walls` writes; the table is b"" where its file is missing.
+
+    The first line is judged before all else. The table counts only where the line names it.
+    """
+    line, closed, text = stdin_bytes.partition(b"\n")
+    found = named(line) if closed else None
+    if found is None:
+        return b"no rule\n"
+    lowest, layers = found
+    text = text[:TEXT_MOST + 1]
+    try:
+        rule = stacked(accept(table_bytes[:TABLE_MOST]) if lowest == b"table" else Line(), layers)
+        return places(b"runs", [stop for _, stop in rule.cutting(text)]) + places(b"walls", rule.walls(text))
     except Refused as refused:
         return refused.line().encode("ascii") + b"\n"
 
@@ -408,16 +626,28 @@ def shown(table_bytes, text_bytes):
     return lines
 
 
+def table_file():
+    """The bytes that are read of the file `table` of the current folder; none where it is missing."""
+    try:
+        with open("table", "rb") as file:
+            return file.read(TABLE_MOST)
+    except FileNotFoundError:
+        return b""
+
+
 def main(arguments):
     """The command; gives its status."""
-    if arguments == ["cut"]:
-        try:
-            with open("table", "rb") as file:
-                table_bytes = file.read(TABLE_MOST)
-        except FileNotFoundError:
-            table_bytes = b""
-        text_bytes = sys.stdin.buffer.read(TEXT_MOST + 1)
-        sys.stdout.buffer.write(cut(table_bytes, text_bytes))
+    if arguments in (["cut"], ["inspect"], ["walls"]):
+        if arguments == ["cut"]:
+            out = cut(table_file(), sys.stdin.buffer.read(TEXT_MOST + 1))
+        elif arguments == ["inspect"]:
+            out = inspect(table_file())
+        else:
+            # A line that has no LF among so many bytes is of another make, whatever follows.
+            line = sys.stdin.buffer.readline(RULE_MOST)
+            text = sys.stdin.buffer.read(TEXT_MOST + 1)
+            out = walls(table_file(), line + text)
+        sys.stdout.buffer.write(out)
         sys.stdout.buffer.flush()
         return 0
     if len(arguments) == 3 and arguments[0] == "show":
@@ -436,7 +666,7 @@ def main(arguments):
         except BrokenPipeError:  # nobody reads on, as with `| head`
             os.dup2(os.open(os.devnull, os.O_WRONLY), 1)
         return 0
-    print("usage: breaks.py cut | breaks.py show TABLE TEXT", file=sys.stderr)
+    print("usage: breaks.py cut | inspect | walls | show TABLE TEXT", file=sys.stderr)
     return 2
 
 

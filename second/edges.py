@@ -1,7 +1,8 @@
 """Fixed tables at the edges of each rule of docs/FORMAT.md and docs/REFUSALS.md, on both sides of them.
 
 edges() lists (name, table, verdict): the verdict is stated here by hand, None where the table is accepted and
-(number, part, place) where it is refused. TEXT is a text that all of them can be tried with.
+(number, part, place) where it is refused. TEXT is a text that all of them can be tried with. sure() lists accepted
+tables (name, table, number) for docs/RULES.md, with the number of their sure pairs, stated by hand as well.
 """
 
 import tables
@@ -407,6 +408,33 @@ def stairs():
         out.append(("%d faults" % len(left), edit(base, *[(place, new) for place, new, _ in left]),
                     left[0][2] if left else None))
     return out
+
+
+def sure():
+    """Tables and the number of their sure pairs."""
+    halves = bytes(128) + bytes([1]) * 128
+    stairs_up = [[4, 4]] + [[128 + 2 * (state + 1), 128] for state in range(2, 63)]
+    return [
+        ("school table", SCHOOL, 9),
+        ("school table for two-byte text", two_byte({0x81: -1, 0x82: -2}, words(1, 4) + bytes(256)), 9),
+        ("one class, each character a run", plain(1, [[4], [128]]), 1),
+        ("one class, no exit", plain(1, [[4], [4]]), 0),
+        ("one class, a mark and no exit", plain(1, [[4], [132]]), 0),
+        ("one class, runs of two", plain(1, [[4], [6], [128]]), 0),
+        ("a state that is not reached would spoil the pair", plain(1, [[4], [128], [6]]), 1),
+        # After class 0 comes state 2 from start alone, and class 0 does not exit from it.
+        ("start spoils a pair", plain(2, [[4, 6], [134, 128], [128, 128]], halves), 3),
+        ("a row that no text has spoils a pair", plain(2, [[4, 6], [128, 128], [6, 128]]), 2),
+        ("marked exits after class 0", plain(2, [[4, 4], [134, 128], [0, 128]], halves), 2),
+        ("an exit without a mark", plain(2, [[4, 4], [134, 128], [0, 0]], halves), 1),
+        ("back to start", plain(2, [[4, 4], [130, 128]], halves), 1),
+        ("many steps", plain(2, stairs_up + [[128, 128]], halves), 2),
+        ("many steps to an exit without a mark", plain(2, stairs_up + [[128, 0]], halves), 1),
+        ("all pairs of 128 classes",
+         plain(128, [[4] * 128] + [[128] * 128 for _ in range(62)], [value & 127 for value in range(256)]), 16384),
+        ("all pairs of 128 classes but the last",
+         plain(128, [[4] * 127 + [6], [128] * 128, [128] * 127 + [132]], [value & 127 for value in range(256)]), 16383),
+    ]
 
 
 def edges():

@@ -1,8 +1,10 @@
-"""Writes second/pages anew: kept pages, each a folder with the files `table`, `text` and `cut`.
+"""Writes second/pages anew: kept pages, each a folder with the files `table`, `text`, `cut` and `inspect`.
 
     python3 second/keep.py
 
-The pages come from the fixed descriptions below; `cut` is what breaks.py says the program `cut` writes.
+The pages come from the fixed descriptions below; `cut` is what breaks.py says the program `cut` writes for the text,
+and `inspect` what it says of the program `inspect`. Some pages have two files more: `stdin`, a first line and the text,
+and `walls`, what the program `walls` writes for it.
 """
 
 import os
@@ -22,6 +24,12 @@ Years later his grand-daughter found the second book under a loose board. Its pa
 small marks, half-circles and dots, 3 or 4 to a line. She read them aloud, one after another, tapping on the window-pane
 with a spoon; and at the nineteenth mark the dog got up, went to the door, and waited for the noon-day meal.
 """
+
+
+# Hyphens and blanks that meet in each way, and an LF between others.
+BOTH = b"re-cut -  it- then -- x -\n-y  - "
+
+LINES = b"one\rtwo\r\r\nthree -\r\n\r-four-"
 
 
 def signed(number):
@@ -64,7 +72,7 @@ def edited(table, place, *values):
 
 
 def pages():
-    """All kept pages: name, table and text."""
+    """All kept pages: name, table and text, and for some the first line for `walls`."""
     school = tables.school()
 
     # All first bytes have k = 1 or 3, and all two-byte characters are letters.
@@ -81,8 +89,15 @@ def pages():
     alone = two_byte({0x81: -1}, words(0))
 
     return [
-        ("school-re-cut-it", school, b"re-cut it"),
-        ("school-cut-it", school, b"cut- it"),
+        ("school-re-cut-it", school, b"re-cut it", b"rule table"),
+        ("school-cut-it", school, b"cut- it", b"rule table"),
+        ("school-cut-it-joint", school, b"cut- it", b"rule table joint 45"),
+        ("school-re-cut-it-tail", school, b"re-cut it", b"rule table tail 32"),
+        ("school-joint-over-tail", school, BOTH, b"rule table tail 32 joint 45"),
+        ("school-tail-over-joint", school, BOTH, b"rule table joint 45 tail 32"),
+        ("school-two-joints", school, BOTH, b"rule table joint 45 joint 10"),
+        ("line", school, LINES, b"rule line"),
+        ("line-two-tails", school, LINES, b"rule line tail 10 tail 45"),
         ("school-prose", school, PROSE),
         ("school-empty", school, b""),
         ("school-one-byte", school, b"-"),
@@ -90,9 +105,12 @@ def pages():
         ("two-odd-table", odd_table, b"\x81a\x82-\x81b\x82-\x82-\x83x\x83y \x84z\x84\x81\x81\x84!ab\x82\x82c"),
         ("two-even-row", even_row, b"ab\x01Ac\x01-D\x01-\x01 \x01\xa0 \x01\x01\x02A\x02*b\x02\x1d\x02\x02x\x01"),
         ("two-mixed", mixed,
-         b"a\x81 b\xe0\x90\xe1\x81\xe1\x82c\xe1\x82\xe1\xe0 \x82q\xe1\xe1\xe0 d-\x81\x81 \xe0a\xe0"),
-        ("two-four-bytes", alone, b"\x81\x81\x81\x41"),
-        ("two-first-at-end", odd_class, b"a\x81"),
+         b"a\x81 b\xe0\x90\xe1\x81\xe1\x82c\xe1\x82\xe1\xe0 \x82q\xe1\xe1\xe0 d-\x81\x81 \xe0a\xe0", b"rule table"),
+        # The layers look at bytes: 81 also as a second byte, and 45 and 32 as second bytes too.
+        ("two-layers", alone, b"\x81\x81\x81-b\x81 \x81\x81 \x81\x81-\x81-\x81 a-\x81",
+         b"rule table joint 45 tail 129"),
+        ("two-four-bytes", alone, b"\x81\x81\x81\x41", b"rule table"),
+        ("two-first-at-end", odd_class, b"a\x81", b"rule table"),
         ("refused-1", school[:271], b"re-cut it"),
         ("refused-2", edited(school, 0, 127), b"re-cut it"),
         ("refused-3", edited(school, 10, 1, 63), b"re-cut it"),  # 319: six bytes from there pass the length of 324
@@ -108,10 +126,14 @@ def main():
     if os.path.isdir(PAGES):
         shutil.rmtree(PAGES)
     made = pages()
-    for name, table, text in made:
+    for name, table, text, *line in made:
+        parts = {"table": table, "text": text, "cut": breaks.cut(table, text), "inspect": breaks.inspect(table)}
+        if line:
+            parts["stdin"] = line[0] + b"\n" + text
+            parts["walls"] = breaks.walls(table, parts["stdin"])
         folder = os.path.join(PAGES, name)
         os.makedirs(folder)
-        for part, data in (("table", table), ("text", text), ("cut", breaks.cut(table, text))):
+        for part, data in parts.items():
             with open(os.path.join(folder, part), "wb") as file:
                 file.write(data)
     print("%d pages written" % len(made))

@@ -681,6 +681,27 @@ def random_table(rng):
     return bytes(made.data)
 
 
+def walled(rng):
+    """The bytes of a sound table that has many sure pairs: most of its codes past the row of state 1 mark and exit.
+
+    All exits from its lower states mark. Its higher states, if there are any, are reached by nothing; their codes are
+    any.
+    """
+    made = rng.choice([one_byte, two_byte])(rng)
+    highest = rng.choice([made.states - 1, made.states - 1, rng.randint(2, made.states - 1)])
+    leaving = rng.choice([0.6, 0.85, 0.97])
+    for state in range(1, made.states):
+        for char_class in range(made.classes):
+            if state > highest:
+                code = 128 * rng.randint(0, 1) + 2 * rng.randint(0, made.states - 1)
+            elif state > 1 and rng.random() < leaving:
+                code = 128
+            else:
+                code = 128 * rng.randint(0, 1) + 2 * rng.randint(min(2, highest), highest)
+            made.put_byte(made.forward_code(state, char_class), code)
+    return bytes(made.data)
+
+
 def big_file(size, length=None):
     """A table file of more bytes than are read: the school table and noise past it; with a length of its own where one
     is given."""
@@ -755,6 +776,43 @@ def text_of(rng, accepted, size):
     elif kind < 0.45 and size >= 3:
         out[-3:] = [rng.choice(first), rng.choice(first), rng.choice(first)]
     return bytes(out)
+
+
+def line_text(rng):
+    """The bytes of a text for the line rule: many bytes 13 and 10, and some others, few of them different."""
+    size = rng.randint(0, 2) if rng.random() < 0.1 else rng.randint(3, rng.choice([20, 120, 400]))
+    values = [13] * rng.randint(1, 4) + [10] * rng.randint(0, 3) + list(b"a- ") + [rng.randint(0, 255)]
+    return bytes(rng.choice(values) for _ in range(size))
+
+
+LAYER_KINDS = [(), (breaks.Joint,), (breaks.Tail,), (breaks.Joint, breaks.Joint), (breaks.Joint, breaks.Tail),
+               (breaks.Tail, breaks.Joint), (breaks.Tail, breaks.Tail)]
+
+
+def random_layers(rng, rule, text, joining=0.75):
+    """None, one or two layers for a rule, lowest first, each its class of breaks.py and its byte. As often as joining
+    says, the byte is one that joins runs of the text."""
+    layers = []
+    for kind in rng.choice(LAYER_KINDS):
+        runs = rule.cutting(text[:400])
+        if rng.random() < joining and len(runs) > 1:
+            place = rng.choice(runs)[0] or runs[1][0]
+            byte = text[place - 1 if kind is breaks.Joint else place]
+        elif rng.random() < 0.6 and text:
+            byte = rng.choice(text[:400])
+        else:
+            byte = rng.choice([0, 255, rng.randint(0, 255)])
+        layers.append((kind, byte))
+        rule = kind(rule, byte)
+    return layers
+
+
+def first_line(lowest, layers):
+    """The first line for the program `walls`, its LF with it."""
+    words = ["rule", lowest]
+    for kind, byte in layers:
+        words += [kind.__name__.lower(), str(byte)]
+    return " ".join(words).encode("ascii") + b"\n"
 
 
 def slow(accepted, text, most=200000):

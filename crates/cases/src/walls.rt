@@ -98,17 +98,47 @@ fn tables(rt: LibcRuntime) -> Result<(), Fail> {
 
 #[test]
 fn layers(rt: LibcRuntime) -> Result<(), Fail> {
-    let tail = Tail { below: school_rule(rt.alloc(), &[])?, byte: 32 };
-    shaped(&Joint { below: tail, byte: 45 }, &LAYERED)?;
-    let joint = Joint { below: school_rule(rt.alloc(), &[])?, byte: 45 };
-    shaped(&Tail { below: joint, byte: 32 }, &LAYERED)
+    let tail = Tail {
+        below: school_rule(rt.alloc(), &[])?,
+        byte: 32,
+    };
+    shaped(
+        &Joint {
+            below: tail,
+            byte: 45,
+        },
+        &LAYERED,
+    )?;
+    let joint = Joint {
+        below: school_rule(rt.alloc(), &[])?,
+        byte: 45,
+    };
+    shaped(
+        &Tail {
+            below: joint,
+            byte: 32,
+        },
+        &LAYERED,
+    )
 }
 
 #[test]
 fn lines() -> Result<(), Fail> {
     shaped(&Line, &LINES)?;
-    shaped(&Joint { below: Line, byte: 13 }, &[(b"ab\rc\r\rd", &[7], &[0])])?;
-    shaped(&Tail { below: Line, byte: 99 }, &[(b"ab\rc\r\rd", &[5, 6, 7], &[0, 5, 6])])
+    shaped(
+        &Joint {
+            below: Line,
+            byte: 13,
+        },
+        &[(b"ab\rc\r\rd", &[7], &[0])],
+    )?;
+    shaped(
+        &Tail {
+            below: Line,
+            byte: 99,
+        },
+        &[(b"ab\rc\r\rd", &[5, 6, 7], &[0, 5, 6])],
+    )
 }
 
 #[test]
@@ -117,13 +147,28 @@ fn long_texts(rt: LibcRuntime) -> Result<(), Fail> {
     let text = [97; 16384];
     check_eq(told(rule.wall(&text[0..16383], 0)), Told::Counted(1))?;
     check_eq(told(rule.wall(&text[0..16383], 16382)), Told::Counted(0))?;
-    check_eq(told(rule.wall(&text[0..16383], 16383)), Told::Refused(10, 4, 16383))?;
+    check_eq(
+        told(rule.wall(&text[0..16383], 16383)),
+        Told::Refused(10, 4, 16383),
+    )?;
     check_eq(told(rule.wall(&text, 0)), Told::Refused(9, 4, 16384))?;
     check_eq(told(rule.wall(&text, 20000)), Told::Refused(9, 4, 16384))?;
     check_eq(told(Line.wall(&text, 0)), Told::Refused(9, 4, 16384))?;
     check_eq(told(Line.wall(b"", 0)), Told::Refused(10, 4, 0))?;
-    check_eq(told(Joint { below: Line, byte: 1 }.wall(&text, 0)), Told::Refused(9, 4, 16384))?;
-    check_eq(told(Tail { below: Line, byte: 1 }.wall(b"ab", 2)), Told::Refused(10, 4, 2))
+    check_eq(
+        told(Joint {
+            below: Line,
+            byte: 1,
+        }.wall(&text, 0)),
+        Told::Refused(9, 4, 16384),
+    )?;
+    check_eq(
+        told(Tail {
+            below: Line,
+            byte: 1,
+        }.wall(b"ab", 2)),
+        Told::Refused(10, 4, 2),
+    )
 }
 
 #[test]
@@ -137,6 +182,12 @@ fn parts(rt: LibcRuntime) -> Result<(), Fail> {
     check_eq(told(three_parts(&rule, text, 6, 7)), Told::Counted(1))?;
     check_eq(told(three_parts(&rule, text, 7, 6)), Told::Counted(0))?;
     check_eq(told(three_parts(&rule, text, 3, 7)), Told::Counted(0))?;
-    check_eq(told(three_parts(&rule, text, 6, 9)), Told::Refused(10, 4, 9))?;
-    check_eq(told(three_parts(&rule, text, 10, 9)), Told::Refused(10, 4, 10))
+    check_eq(
+        told(three_parts(&rule, text, 6, 9)),
+        Told::Refused(10, 4, 9),
+    )?;
+    check_eq(
+        told(three_parts(&rule, text, 10, 9)),
+        Told::Refused(10, 4, 10),
+    )
 }

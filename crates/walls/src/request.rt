@@ -42,9 +42,9 @@ fn first_line(input: &[u8]) -> Option<usize>
     None
 }
 
-// A byte in decimal: one to three digits.
+// A byte in decimal, with no zero in front.
 fn number(word: &str) -> Option<u8> {
-    if word.len() > 3 {
+    if word.len() > 3 || (word.len() > 1 && word.as_bytes()[0] == b'0') {
         return None;
     }
     for digit in word.bytes() {

@@ -4,7 +4,8 @@ ghost use Prim.Native.Nat.{ℕ, _<_, _≤_};
 ghost use Rattle.std.specs.Options.{Cases as BySome};
 ghost use Rattle.refusals.specs.declared.Direction.the-variants.{Forward};
 ghost use Rattle.automata.specs.Machine.{next};
-ghost use Rattle.automata.specs.Sure.{holds};
+ghost use Rattle.std.specs.Orderings.{Decides};
+ghost use Rattle.automata.specs.Sure.{Sure, holds};
 ghost use Rattle.tables.specs.Words.{signed8};
 ghost use Rattle.tables.specs.Layout.{states, classes, machine};
 ghost use Rattle.tables.specs.Classes.{entry, leads, one-class, two-class};
@@ -38,7 +39,8 @@ impl Table {
 
     /// Whether a pair of classes is sure.
     pub fn is_sure(&self, a: usize, b: usize) -> bool
-        ensures { λ r. ⌜ r ≡ holds (now (self .entry) .sure .rows) a b ⌝ }
+        ensures value { λ r. ⌜ r ≡ holds (now (self .entry) .sure .rows) a b ⌝ }
+        ensures sure { λ r. ⌜ (a < classes (bytes-of (now (self .entry))) → b < classes (bytes-of (now (self .entry))) → Decides r (Sure (machine (bytes-of (now (self .entry))) Forward) (classes (bytes-of (now (self .entry)))) a b)) ⌝ }
     {
         self.sure.has(a, b)
     }
