@@ -6,3 +6,5 @@ pub mod Stucks
 pub mod Digits
 pub mod Counts
 pub mod Sures
+pub mod Gathers
+pub mod Unsteadies

@@ -25,10 +25,10 @@ pub least-same : (P Q : ℕ → Type 0) → ((k : ℕ) → P k → Q k) → ((k 
 least-same P Q f g None h = λ k q. h k (g k q)
 least-same P Q f g (Some k) h = (f k (h .0), λ j q. h .1 j (g j q))
 
-mark-set : (x i : ℕ) (m : Option ℕ) → 128 ≤ x → marked x i m ≡ Some i
+pub mark-set : (x i : ℕ) (m : Option ℕ) → 128 ≤ x → marked x i m ≡ Some i
 mark-set x i m h = cond-true (marks x) (Some i) m (le-leb 128 x h)
 
-mark-kept : (x i : ℕ) (m : Option ℕ) → x < 128 → marked x i m ≡ m
+pub mark-kept : (x i : ℕ) (m : Option ℕ) → x < 128 → marked x i m ≡ m
 mark-kept x i m h = cond-false (marks x) (Some i) m (lt-leb 128 x h)
 
 mark-late : (x i : ℕ) (m : Option ℕ) → 1 ≤ i → 1 ≤ before m → 1 ≤ before (marked x i m)

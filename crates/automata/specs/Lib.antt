@@ -4,3 +4,5 @@ pub mod Reach
 pub mod Stuck
 pub mod Parts
 pub mod Sure
+pub mod Steady
+pub mod Unsure

@@ -1,6 +1,7 @@
 mod advance;
 mod reach;
 mod read;
+mod steady;
 mod sure;
 
 ghost use mathlib.Core.Path.{_≡_};

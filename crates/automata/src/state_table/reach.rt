@@ -10,7 +10,7 @@ use crate::state_set::StateSet;
 use crate::state_set::StateSetPartialEq;
 
 /// Whether a code goes on: it does not exit and, where only quiet codes are asked for, does not mark.
-fn goes(quiet: bool, x: u8) -> bool
+pub(super) fn goes(quiet: bool, x: u8) -> bool
     ensures { λ r. ⌜ Decides r (Goes quiet x) ⌝ }
 {
     (x % 128) / 2 != 0 && (x < 128 || !quiet)
