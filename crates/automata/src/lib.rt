@@ -1,5 +1,7 @@
 //! State tables as machines over classes: what they reach, whether every run advances, which pairs of classes are sure,
 //! and whether a backward scan ends at such pairs alone.
+#![tactic(auto)]
+
 pub mod state_set;
 pub mod state_table;
 pub mod sure_pairs;

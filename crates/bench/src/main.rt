@@ -1,4 +1,6 @@
 //! Times the calls over the page in the file `text` by the table in the file `table`, and tells nanoseconds for a call.
+#![tactic(auto)]
+
 mod timing;
 
 use books::Book;

@@ -1,4 +1,6 @@
 //! Books: pins kept in a text by an editor, and what a changed letter upsets.
+#![tactic(auto)]
+
 pub mod book;
 pub mod call;
 mod change;

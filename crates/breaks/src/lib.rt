@@ -1,4 +1,6 @@
 //! Texts cut by break tables: characters and runs.
+#![tactic(auto)]
+
 pub mod characters;
 mod page;
 pub mod rule;

@@ -1,4 +1,6 @@
 //! The cases of the documents, as tests: verdicts on tables, characters, runs, cut files, finding and refusals.
+#![tactic(auto)]
+
 #[cfg(test)]
 mod cutting;
 #[cfg(test)]

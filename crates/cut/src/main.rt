@@ -1,4 +1,6 @@
 //! Cuts the text on standard input by the break table in the file `table`, and writes the cut file or a refusal.
+#![tactic(auto)]
+
 use breaks::cut_page;
 use files::{TEXT_LIMIT, read_input, read_table};
 use std::io;

@@ -1,4 +1,6 @@
 //! What the programs read: the files `table` and `text`, and standard input.
+#![tactic(auto)]
+
 use std::fs::File;
 use std::io;
 use std::io::{ErrorKind, Read};

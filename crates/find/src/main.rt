@@ -1,4 +1,6 @@
 //! Finds the run over each place that the arguments name, in the text on standard input, by the break table in the file `table`.
+#![tactic(auto)]
+
 use breaks::TableRule;
 use files::{TEXT_LIMIT, read_input, read_table};
 use finds::find;

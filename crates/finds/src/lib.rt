@@ -1,4 +1,6 @@
 //! The run over a place of a text, found without cutting the text from its start.
+#![tactic(auto)]
+
 mod back;
 mod over;
 

@@ -1,4 +1,6 @@
 //! Tells of the break table in the file `table` how many states, classes and sure pairs it has, or its first fault.
+#![tactic(auto)]
+
 use files::read_table;
 use std::io;
 use tables::examine;

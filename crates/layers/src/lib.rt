@@ -1,4 +1,6 @@
 //! Layers over any rule: the joint layer, the tail layer, and piles of them.
+#![tactic(auto)]
+
 mod layers;
 mod pile;
 

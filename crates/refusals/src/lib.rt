@@ -1,4 +1,6 @@
 //! Refusals: why an input is not taken, as a number, a part and a place.
+#![tactic(auto)]
+
 ghost use Rattle.std.specs.Prelude.{◌≡◌, Some};
 ghost use Rattle.refusals.specs.Reports.{part_of, report_of, line_of};
 

@@ -1,4 +1,6 @@
 //! Rules by name: what the first line of a program's input asks for, and the rule that it names.
+#![tactic(auto)]
+
 mod base;
 mod decimal;
 mod request;

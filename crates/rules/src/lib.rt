@@ -1,4 +1,6 @@
 //! Rules that cut a text into runs, their walls, and the cut file.
+#![tactic(auto)]
+
 mod cut_file;
 mod lines;
 mod rule;

@@ -1,4 +1,6 @@
 //! The school table: a break table for plain English, built in.
+#![tactic(auto)]
+
 ghost use Rattle.std.specs.Prelude.{◌≡◌, ℕ, ◌<◌, pos};
 ghost use Rattle.tables.specs.Classes.{entry};
 ghost use Rattle.school.specs.School.{school, school_class};

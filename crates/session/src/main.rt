@@ -1,4 +1,6 @@
 //! Opens a book over the text in the file `text`, carries out the calls on standard input, and writes a line for each.
+#![tactic(auto)]
+
 mod input;
 mod show;
 

@@ -1,4 +1,6 @@
 //! Break tables: their format, and which of them are accepted.
+#![tactic(auto)]
+
 mod checks;
 mod layout;
 mod pairs;

@@ -1,4 +1,6 @@
 //! The window of a change of one byte: where a rule's runs may differ, and by how many.
+#![tactic(auto)]
+
 mod counts;
 mod trial;
 mod walls;

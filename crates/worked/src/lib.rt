@@ -1,4 +1,6 @@
 //! The worked cases, proved about the rules themselves.
+#![tactic(auto)]
+
 ghost use Rattle.worked.specs.Cases.{WorkedCases};
 
 /// The worked cases hold.
