@@ -42,7 +42,7 @@ def own_names():
     """The repository's own names that have a dash or an old prime, each with the file that defines it first."""
     found = {}
     for path in files():
-        if not path.endswith(".antt") or os.path.basename(path) in ANSWERING:
+        if not path.endswith(".antt") or ("/proofs/" in path and os.path.basename(path) in ANSWERING):
             continue
         with open(path, encoding="utf-8") as file:
             for line in file:

@@ -6,7 +6,7 @@ use Rattle.std.proofs.lemmas.List.{length-map}
 use Rattle.refusals.specs.declared.Refusal.{Refusal}
 use Rattle.refusals.specs.declared.Refusal.TheVariants.{PinsFull, NoPin}
 use Rattle.rules.specs.Cutting.{cutting, Bounded, Joined}
-use Rattle.rules.specs.Answers.{wall-at}
+use Rattle.rules.specs.Answers.{wall_at}
 use Rattle.rules.specs.Runs.{number_over, run_over_byte}
 use Rattle.rules.specs.declared.runs.Run.{Run}
 use Rattle.rules.specs.Cuts.{cutting_some}
@@ -46,7 +46,7 @@ follows_by run parts c new qs plain long keeps a is =
 module _ (run : List ℕ → ℕ) (b : Bounded run) (parts : List ℕ → List ℕ → Bool)
     (joins : (before after : List ℕ) → parts before after ≡ true → Joined run before after) (text : List ℕ) (qs : List Pin) (a : All (TruePin run parts text) qs) where
   -- at a wall as many runs end at or before it as start below it
-  number_there : (w : ℕ) → w < length text → wall-at parts text w ≡ true → number_over w (cutting run text) ≡ number_at run text w
+  number_there : (w : ℕ) → w < length text → wall_at parts text w ≡ true → number_over w (cutting run text) ≡ number_at run text w
   number_there w h e =
       let parted = wall_joined run b parts joins text w e in
       let one : 1 ≤ length (drop w text) = simp length-drop (omega arith) in
@@ -58,7 +58,7 @@ module _ (run : List ℕ → ℕ) (b : Bounded run) (parts : List ℕ → List �
       let number = parted_number run b text w (omega arith) parted in
       omega (arith, over.2, none, number)
 
-  true_there : (w n : ℕ) → w < length text → wall-at parts text w ≡ true → n ≡ number_over w (cutting run text) → TruePin run parts text (a_pin w n)
+  true_there : (w n : ℕ) → w < length text → wall_at parts text w ≡ true → n ≡ number_over w (cutting run text) → TruePin run parts text (a_pin w n)
   true_there w n h e is =
       record { is_wall = and_from _ _ (lt-ltb w (length text) h) e; is_numbered = is ∙ number_there w h e }
 
@@ -84,7 +84,7 @@ module _ (run : List ℕ → ℕ) (b : Bounded run) (parts : List ℕ → List �
         ∙ sym (left_ok _ p.number _ _ (unpinned p e))
 
     -- pin, with the wall that is to be kept
-    module _ (w : ℕ) (is : w ≡ nearest_wall parts text place) (within : w ≤ place) (wall : wall-at parts text w ≡ true) where
+    module _ (w : ℕ) (is : w ≡ nearest_wall parts text place) (within : w ≤ place) (wall : wall_at parts text w ≡ true) where
       pub pinned_again : (p : Pin) → Some p ≡ pin_at w qs → Ok p ≡ pin_answer run parts (plainly text qs) (length text) place
       pinned_again p e =
           let one = at_some (TruePin run parts text) w qs p a e in

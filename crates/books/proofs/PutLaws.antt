@@ -4,7 +4,7 @@ use Rattle.std.specs.List.{AllByRecursion as All}
 use Rattle.std.proofs.lemmas.List.{length-set}
 use Rattle.std.proofs.lemmas.Int.{ints}
 use Rattle.rules.specs.Cutting.{cutting, Bounded, Joined}
-use Rattle.rules.specs.Answers.{wall-at}
+use Rattle.rules.specs.Answers.{wall_at}
 use Rattle.pins.specs.declared.pin.Pin.{Pin}
 use Rattle.pins.specs.Kept.{kept}
 use Rattle.windows.specs.Windows.{runs, gained, both_walls, greatest, least, window_begin, window_end}
@@ -39,7 +39,7 @@ and_turned false false = refl
 
 module _ (parts : List ℕ → List ℕ → Bool) (xs ys : List ℕ) (p : ℕ) where
   turned : (q : ℕ) → both_walls parts ys xs q ≡ both_walls parts xs ys q
-  turned q = and_turned (wall-at parts ys q) (wall-at parts xs q)
+  turned q = and_turned (wall_at parts ys q) (wall_at parts xs q)
 
   from_back : window_begin parts ys xs p ≡ window_begin parts xs ys p
   from_back = greatest_alike (both_walls parts ys xs) (both_walls parts xs ys) turned p

@@ -7,7 +7,7 @@ use Rattle.std.proofs.lemmas.List.{map-append, append-nil, length-map, length-ta
 use Rattle.std.proofs.lemmas.Bool.{cond_both, cond-true, cond-false, cases_lt, and_parts, and_from, ltb-true, lt-ltb, le-ltb, leb-true, le-leb}
 use Rattle.std.proofs.lemmas.Int.{ints}
 use Rattle.rules.specs.Cutting.{cutting, Bounded, Joined}
-use Rattle.rules.specs.Answers.{wall-at}
+use Rattle.rules.specs.Answers.{wall_at}
 use Rattle.rules.specs.Cuts.{runs_few}
 use Rattle.rules.proofs.WallLaws.{Parted, parted_number}
 use Rattle.pins.specs.declared.pin.Pin.{Pin}
@@ -72,9 +72,9 @@ elsewhere by q = record { place = q.place; number = held q.place (pos q.number +
 
 -- a pin inside the text stands where a wall does
 pub standing_at : (parts : List ℕ → List ℕ → Bool) (text : List ℕ) (qs : List Pin) (k : ℕ) (q : Pin) → q ≡ get_or qs k nought → q.place < length text
-    → stands parts text (get_or qs k nought).place ≡ wall-at parts text q.place
+    → stands parts text (get_or qs k nought).place ≡ wall_at parts text q.place
 standing_at parts text qs k q e h =
-    ap (λ (p : Pin). stands parts text p.place) (sym e) ∙ ap (λ v. v && wall-at parts text q.place) (lt-ltb q.place (length text) h)
+    ap (λ (p : Pin). stands parts text p.place) (sym e) ∙ ap (λ v. v && wall_at parts text q.place) (lt-ltb q.place (length text) h)
 
 module _ (to : ℕ) (by : ℤ) where
   pub moved_place : (q : Pin) → (moved to by q).place ≡ q.place
@@ -147,8 +147,8 @@ module _ (run : List ℕ → ℕ) (b : Bounded run) (parts : List ℕ → List �
   true_after : (q : Pin) → TruePin run parts xs q → stands parts (set xs p v) q.place ≡ true
       → (moved to (gained run xs (set xs p v)) q).number ≡ number_at run (set xs p v) q.place
   true_after q old new =
-      let x = and_parts (ltb q.place (length xs)) (wall-at parts xs q.place) old.is_wall in
-      let y = and_parts (ltb q.place (length (set xs p v))) (wall-at parts (set xs p v) q.place) new in
+      let x = and_parts (ltb q.place (length xs)) (wall_at parts xs q.place) old.is_wall in
+      let y = and_parts (ltb q.place (length (set xs p v))) (wall_at parts (set xs p v) q.place) new in
       let inside = ltb-true q.place (length xs) x.0 in
       let sized = length-set xs p v in
       let two : both_walls parts xs (set xs p v) q.place ≡ true = and_from _ _ x.1 y.1 in

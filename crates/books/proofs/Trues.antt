@@ -6,7 +6,7 @@ use Rattle.std.proofs.lemmas.List.{length-map, get_or-map}
 use Rattle.std.proofs.ByRecursion.{All-get_or}
 use Rattle.refusals.specs.declared.Refusal.TheVariants.{NumberOutside}
 use Rattle.rules.specs.Cutting.{cutting, Bounded, Joined}
-use Rattle.rules.specs.Answers.{wall-at}
+use Rattle.rules.specs.Answers.{wall_at}
 use Rattle.rules.specs.Runs.{nth_from, over_from, run_over_byte, starts_at, ends_at, span_of}
 use Rattle.rules.specs.declared.runs.Run.{Run}
 use Rattle.rules.specs.declared.runs.Span.{Span}
@@ -38,7 +38,7 @@ module _ (run : List ℕ → ℕ) (b : Bounded run) (parts : List ℕ → List �
 
   pub true_start : (q : Pin) → TruePin run parts text q → Start q
   true_start q t =
-      let two = and_parts (ltb q.place (length text)) (wall-at parts text q.place) t.is_wall in
+      let two = and_parts (ltb q.place (length text)) (wall_at parts text q.place) t.is_wall in
       let inside = ltb-true q.place (length text) two.0 in
       let parted = wall_joined run b parts joins text q.place two.1 in
       record {

@@ -4,7 +4,7 @@ use Rattle.std.specs.Prelude.{ℕ, Bool, true, false, cond, not, ◌&&◌, List,
 use Rattle.refusals.specs.declared.Refusal.{Refusal}
 use Rattle.refusals.specs.declared.Refusal.TheVariants.{PlaceOutside, NumberOutside, OtherLength, PinsFull, NoPin}
 use Rattle.rules.specs.Cutting.{cutting}
-use Rattle.rules.specs.Answers.{wall-at}
+use Rattle.rules.specs.Answers.{wall_at}
 use Rattle.rules.specs.Walls.{starts_below}
 use Rattle.rules.specs.Runs.{starts_at, ends_at, run_over_byte}
 use Rattle.rules.specs.declared.runs.Run.{Run}
@@ -47,11 +47,11 @@ taken_out p (q ∷ qs) = cond (q == p) qs (q ∷ taken_out p qs)
 -- ---- what is asked of a text
 -- a wall stands at a place inside the text
 abbrev pub stands : (List ℕ → List ℕ → Bool) → List ℕ → ℕ → Bool
-stands parts text place = nat_lt place (length text) && wall-at parts text place
+stands parts text place = nat_lt place (length text) && wall_at parts text place
 
 -- the greatest wall not above a place
 abbrev pub nearest_wall : (List ℕ → List ℕ → Bool) → List ℕ → ℕ → ℕ
-nearest_wall parts text place = greatest (wall-at parts text) place
+nearest_wall parts text place = greatest (wall_at parts text) place
 
 -- the number at a place: how many runs start below it
 abbrev pub number_at : (List ℕ → ℕ) → List ℕ → ℕ → ℕ

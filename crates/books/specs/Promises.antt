@@ -3,7 +3,7 @@ use Rattle.std.specs.Prelude.{◌≡◌, ℕ, ◌<◌, ◌≤◌, Bool, List, []
 use Rattle.std.specs.List.{AllByRecursion as All}
 use Rattle.refusals.specs.declared.Refusal.TheVariants.{TextTooLong}
 use Rattle.pins.specs.declared.pin.Pin.{Pin}
-use Rattle.rules.specs.Answers.{about-place}
+use Rattle.rules.specs.Answers.{about_place}
 use Rattle.rules.specs.Runs.{span_of}
 use Rattle.rules.specs.declared.runs.Run.{Run}
 use Rattle.tables.specs.Meaning.{bytes_of}
@@ -66,4 +66,4 @@ abbrev pub FindAsLook : (List ℕ → ℕ) → Plain → Type 0
 FindAsLook run b =
     (t : TableRule) → Steady (bytes_of t.table) → ((xs : List ℕ) → 1 ≤ length xs → run_of t xs ≡ run xs)
     → (place : ℕ) (r : Run) → look_answer run b (length b.bytes) place ≡ Ok r
-    → about-place b.bytes place (found (bytes_of t.table) b.bytes place) ≡ Ok (span_of r)
+    → about_place b.bytes place (found (bytes_of t.table) b.bytes place) ≡ Ok (span_of r)

@@ -3,7 +3,7 @@ use Rattle.std.specs.Prelude.{ℕ, Bool, List, [], ◌∷◌, ◌++◌, length, 
 use Rattle.refusals.specs.declared.Direction.TheVariants.{Forward}
 use Rattle.refusals.specs.declared.Refusal.{Refusal}
 use Rattle.automata.specs.Sure.{holds}
-use Rattle.rules.specs.Answers.{about-place}
+use Rattle.rules.specs.Answers.{about_place}
 use Rattle.tables.specs.Layout.{machine}
 use Rattle.tables.specs.Classes.{leads, one_class, two_class}
 use Rattle.tables.specs.Meaning.{bytes_of}
@@ -38,4 +38,4 @@ first_of (u ∷ us) = record { size = u.size; class = u.class }
 
 -- the character at a place of a text, counted from there
 abbrev pub character_of : List ℕ → List ℕ → ℕ → Result Character Refusal
-character_of b text place = about-place text place (first_of (characters b (drop place text)))
+character_of b text place = about_place text place (first_of (characters b (drop place text)))

@@ -6,7 +6,7 @@ use Rattle.std.proofs.lemmas.Bool.{cond_both}
 use Rattle.refusals.specs.declared.Direction.TheVariants.{Forward, Backward}
 use Rattle.automata.specs.Machine.{Ending, runs_out, exits_by, scanned, Row}
 use Rattle.automata.specs.Sure.{holds}
-use Rattle.rules.specs.Answers.{wall-at}
+use Rattle.rules.specs.Answers.{wall_at}
 use Rattle.rules.specs.Cutting.{cutting, Bounded, Joined}
 use Rattle.rules.specs.Runs.{over_from, run_over_byte, span_of}
 use Rattle.rules.proofs.Lawful.{wall_joined}
@@ -131,7 +131,7 @@ module _ (t : Table) where
 
   module _ (steady : Steady (bytes_of t)) (text : List ℕ) where
     -- a place of the text at which its characters are parted is a wall
-    wall_parted : (q : ℕ) → q ≤ length text → parted sure q (characters b text) ≡ true → wall-at (table_parts b sure) text q ≡ true
+    wall_parted : (q : ℕ) → q ≤ length text → parted sure q (characters b text) ≡ true → wall_at (table_parts b sure) text q ≡ true
     wall_parted q l e =
         cond_both (eqb q 0) _ _ (λ (w : Bool). w ≡ true) (λ _. refl)
         (λ _. parted_at sure (leads b) (one_class b) (two_class b) text q l ∙ e)
@@ -148,20 +148,20 @@ module _ (t : Table) where
           row_low (classes b) (backward_from b text place) (fit_reverse (classes b) _ (fit_left (classes b) _ f.0 (subst (Fit (classes b)) f.1 (fits text))))
 
       leads_wall : (e : Ending) → scanned (machine b Backward) (row_of (backward_from b text place)) ≡ e → leads_to (backward_from b text place) e ≤ length text
-          → wall-at (table_parts b sure) text (leads_to (backward_from b text place) e) ≡ true
+          → wall_at (table_parts b sure) text (leads_to (backward_from b text place) e) ≡ true
       leads_wall runs_out is l = refl
       leads_wall (exits_by s c None) is l = refl
       leads_wall (exits_by s c (Some i)) is l =
           let pair = mark_sure (machine b Backward) (classes b) least sure (steady sure (table_tells t)) (row_of (backward_from b text place)) s c i row is in
           elim (mark_parted (classes b) sure (characters b text) (backward_from b text place) order.0 (fits text) order.1 i pair) [
-            | inl z ↦ ap (wall-at (table_parts b sure) text) z
+            | inl z ↦ ap (wall_at (table_parts b sure) text) z
             | inr p ↦ wall_parted _ l p
           ]
 
       -- find begins at a wall
-      begins_at_wall : begin b text place ≤ length text → wall-at (table_parts b sure) text (begin b text place) ≡ true
+      begins_at_wall : begin b text place ≤ length text → wall_at (table_parts b sure) text (begin b text place) ≡ true
       begins_at_wall =
-          cond_both (ltb place (backup b)) _ _ (λ (q : ℕ). q ≤ length text → wall-at (table_parts b sure) text q ≡ true) (λ _ _. refl)
+          cond_both (ltb place (backup b)) _ _ (λ (q : ℕ). q ≤ length text → wall_at (table_parts b sure) text q ≡ true) (λ _ _. refl)
           (λ _. leads_wall (scanned (machine b Backward) (row_of (backward_from b text place))) refl)
 
       -- and finds what the cutting of the whole text has

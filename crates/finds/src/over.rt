@@ -1,5 +1,5 @@
 ghost use Rattle.std.specs.Prelude.{◌≡◌};
-ghost use Rattle.rules.specs.Answers.{about-place};
+ghost use Rattle.rules.specs.Answers.{about_place};
 ghost use Rattle.rules.specs.Cutting.{cutting};
 ghost use Rattle.rules.specs.Runs.{run_over_byte, span_of};
 ghost use Rattle.tables.specs.Meaning.{bytes_of};
@@ -15,8 +15,8 @@ use rules::{LIMIT, Span, walk_to};
 /// The run over a place of a text, with runs taken from the mark to which a backward scan leads. By a steady table it is
 /// the run over that place in the cutting of the whole text.
 pub fn find(rule: &TableRule, text: &[u8], place: usize) -> Result<Span, Refusal>
-    ensures value { result ≡ about-place text.now place (found (bytes_of rule.now.table) text.now place) }
-    ensures as_cut_whole { Steady (bytes_of rule.now.table) → result ≡ about-place text.now place (span_of (run_over_byte (cutting (table_run (bytes_of rule.now.table)) text.now) place)) }
+    ensures value { result ≡ about_place text.now place (found (bytes_of rule.now.table) text.now place) }
+    ensures as_cut_whole { Steady (bytes_of rule.now.table) → result ≡ about_place text.now place (span_of (run_over_byte (cutting (table_run (bytes_of rule.now.table)) text.now) place)) }
 {
     if text.len() > LIMIT {
         return Err(Refusal::TextTooLong(text.len()));

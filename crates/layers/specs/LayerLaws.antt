@@ -6,7 +6,7 @@ use Rattle.std.proofs.Math.Logic.{⊎_elim}
 use Rattle.std.proofs.lemmas.List.{drop-append-le, drop-drop, get_or-drop, get_or_append_left, get_or-append_right}
 use Rattle.std.proofs.lemmas.Bool.{cond-true, cond-false, cases_Bool, cases_lt, and_parts, and_left, and_right, ltb-true, lt-ltb, le-ltb, not-true}
 use Rattle.rules.specs.Cutting.{Bounded, Joined, first, last}
-use Rattle.rules.specs.Answers.{wall-at}
+use Rattle.rules.specs.Answers.{wall_at}
 use Rattle.layers.specs.Layers.{seam_glued, glued, layer_run, layer_parts}
 use Rattle.rules.specs.Cuts.{shorter, last_drop, last_take, joined_by, joined_run, joined_rest}
 use Rattle.rules.proofs.Lawful.{wall_past}
@@ -60,7 +60,7 @@ module _ (glues : ℕ → ℕ → Bool) where
 
   -- a wall past the text's start, by the bytes before and after it
   pub layer_wall : (parts : List ℕ → List ℕ → Bool) (text : List ℕ) (place : ℕ) → 1 ≤ place → place < length text
-      → wall-at (layer_parts glues parts) text place ≡ (wall-at parts text place && not (glues (slice_index text (place - 1)) (slice_index text place)))
+      → wall_at (layer_parts glues parts) text place ≡ (wall_at parts text place && not (glues (slice_index text (place - 1)) (slice_index text place)))
   layer_wall parts text place one h =
       let here = wall_past (layer_parts glues parts) text place one in
       let below = wall_past parts text place one in

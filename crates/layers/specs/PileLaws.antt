@@ -5,7 +5,7 @@ use Rattle.std.proofs.Common.{sym, ap, ◌∙◌, ⊎_elim, arith, length-drop}
 use Rattle.std.proofs.lemmas.List.{drop-drop, at_drop_more, at_drop_all}
 use Rattle.std.proofs.lemmas.Bool.{cond-false, both_ways, cases_Bool, cases_lt, and_right, or_left, le-ltb}
 use Rattle.rules.specs.Cutting.{Bounded, Joined}
-use Rattle.rules.specs.Answers.{about, about-place, end_of, wall-of}
+use Rattle.rules.specs.Answers.{about, about_place, end_of, wall_of}
 use Rattle.layers.specs.Layers.{seam_glued, layer_run, layer_parts}
 use Rattle.layers.specs.Piles.{glues_of, pile_run, pile_parts, any_glues}
 use Rattle.layers.specs.declared.pile.Layer.{Layer}
@@ -113,15 +113,15 @@ pile_end ls run b text place =
     ⊎_elim
     (λ (inside : place < length text).
     let one : 1 ≤ length (drop place text) = simp length-drop (omega arith) in
-    ap (λ k. about-place text place (place + k)) (pile_layer ls run b (drop place text) one))
+    ap (λ k. about_place text place (place + k)) (pile_layer ls run b (drop place text) one))
     (λ (outside : length text ≤ place).
     let no_place = le-ltb place (length text) outside in
     ap (about text) (cond-false _ _ _ no_place ∙ sym (cond-false _ _ _ no_place)))
     (cases_lt place (length text))
 
 pub pile_wall : (ls : List Layer) (parts : List ℕ → List ℕ → Bool) (text : List ℕ) (place : ℕ)
-    → wall-of (layer_parts (any_glues ls) parts) text place ≡ wall-of (pile_parts ls parts) text place
-pile_wall ls parts text place = ap (λ w. about-place text place (cond (place == 0) true w)) (pile_walls ls parts _ _)
+    → wall_of (layer_parts (any_glues ls) parts) text place ≡ wall_of (pile_parts ls parts) text place
+pile_wall ls parts text place = ap (λ w. about_place text place (cond (place == 0) true w)) (pile_walls ls parts _ _)
 
 pub pile_bounded : (ls : List Layer) (run : List ℕ → ℕ) → Bounded run → Bounded (pile_run ls run)
 pile_bounded [] run b = b

@@ -1,5 +1,5 @@
 ghost use Rattle.std.specs.Prelude.{◌≡◌, ℕ, Bool};
-ghost use Rattle.rules.specs.Answers.{end_of, wall-of};
+ghost use Rattle.rules.specs.Answers.{end_of, wall_of};
 ghost use Rattle.layers.specs.Layers.{layer_run, layer_parts};
 
 use refusals::Refusal;
@@ -44,7 +44,7 @@ pub fn layer_wall<R: Rule, S: Seam>(
     text: &[u8],
     place: usize,
 ) -> Result<bool, Refusal>
-    ensures { result ≡ wall-of (layer_parts (glues seam.now) (parts below.now)) text.now place }
+    ensures { result ≡ wall_of (layer_parts (glues seam.now) (parts below.now)) text.now place }
 {
     let wall = below.wall(text, place)?;
     if place == 0 {

@@ -3,7 +3,7 @@ use Rattle.std.specs.Prelude.{◌≡◌, ℕ, ◌+◌, ◌-◌, ◌<◌, ◌≤�
 use Rattle.refusals.specs.declared.Refusal.{Refusal}
 use Rattle.refusals.specs.declared.Refusal.TheVariants.{PlaceOutside}
 use Rattle.rules.specs.Cutting.{cutting}
-use Rattle.rules.specs.Answers.{about, about-place, wall-at}
+use Rattle.rules.specs.Answers.{about, about_place, wall_at}
 
 -- how many runs of these lengths start below a place
 abbrev pub starts_below : ℕ → List ℕ → ℕ
@@ -26,7 +26,7 @@ InThree run text from to =
 
 -- an answer about a place: at a wall this number, elsewhere none
 abbrev pub at_wall : (List ℕ → List ℕ → Bool) → List ℕ → ℕ → ℕ → Result (Option ℕ) Refusal
-at_wall parts text place number = about-place text place (cond (wall-at parts text place) (Some number) None)
+at_wall parts text place number = about_place text place (cond (wall_at parts text place) (Some number) None)
 
 -- an answer about two places of a text
 abbrev pub about_places : {V : Type 0} → List ℕ → ℕ → ℕ → V → Result V Refusal

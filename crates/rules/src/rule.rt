@@ -1,6 +1,6 @@
 ghost use Rattle.std.specs.Prelude.{◌≡◌, ℕ, ◌+◌, ◌<◌, ◌≤◌, Bool, true, List, length, take, drop};
 ghost use Rattle.rules.specs.Cutting.{Bounded, Joined};
-ghost use Rattle.rules.specs.Answers.{end_of, wall-at, wall-of};
+ghost use Rattle.rules.specs.Answers.{end_of, wall_at, wall_of};
 
 use refusals::Refusal;
 
@@ -22,7 +22,7 @@ pub trait Rule {
 
     /// Whether a wall stands at the place: always at the text's start.
     fn wall(&self, text: &[u8], place: usize) -> Result<bool, Refusal>
-        ensures { result ≡ wall-of (parts self.now) text.now place };
+        ensures { result ≡ wall_of (parts self.now) text.now place };
 
     ghost bounds: { (s : Self) → Bounded (run s) };
 
@@ -45,7 +45,7 @@ pub fn run_end<R: Rule>(rule: &R, text: &[u8], place: usize) -> usize
 /// Whether a wall stands at a place, in a text that no rule refuses.
 pub fn is_wall<R: Rule>(rule: &R, text: &[u8], place: usize) -> bool
     requires { (length text.now ≤ 16383) × (place < length text.now) }
-    ensures value { result ≡ wall-at (parts rule.now) text.now place }
+    ensures value { result ≡ wall_at (parts rule.now) text.now place }
     ensures joined { result ≡ true → Joined (run rule.now) (take place text.now) (drop place text.now) }
 {
     let Ok(wall) = rule.wall(text, place) else {

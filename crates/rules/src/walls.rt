@@ -1,6 +1,6 @@
 ghost use Rattle.std.specs.Prelude.{◌≡◌, true, ◌&&◌, List, length, take, Ok, nat_le};
 ghost use Rattle.rules.specs.Cutting.{cutting};
-ghost use Rattle.rules.specs.Answers.{wall-at};
+ghost use Rattle.rules.specs.Answers.{wall_at};
 ghost use Rattle.rules.specs.Walls.{starts_below, Uncrossed, InThree, at_wall, about_places};
 
 use crate::cut_file::count_runs;
@@ -12,7 +12,7 @@ use refusals::Refusal;
 pub fn runs_before<R: Rule>(rule: &R, text: &[u8], place: usize) -> Result<Option<usize>, Refusal>
     ensures alone { result ≡ at_wall (parts rule.now) text.now place (length (cutting (run rule.now) (take place text.now))) }
     ensures before { result ≡ at_wall (parts rule.now) text.now place (starts_below place (cutting (run rule.now) text.now)) }
-    ensures uncrossed { wall-at (parts rule.now) text.now place ≡ true → Uncrossed place (cutting (run rule.now) text.now) }
+    ensures uncrossed { wall_at (parts rule.now) text.now place ≡ true → Uncrossed place (cutting (run rule.now) text.now) }
 {
     if !rule.wall(text, place)? {
         return Ok(None);
@@ -23,7 +23,7 @@ pub fn runs_before<R: Rule>(rule: &R, text: &[u8], place: usize) -> Result<Optio
 /// Whether two places are walls, the first at or before the second. The three parts of the text that they bound are then
 /// cut alone.
 pub fn three_parts<R: Rule>(rule: &R, text: &[u8], from: usize, to: usize) -> Result<bool, Refusal>
-    ensures answer { result ≡ about_places text.now from to (nat_le from to && (wall-at (parts rule.now) text.now from && wall-at (parts rule.now) text.now to)) }
+    ensures answer { result ≡ about_places text.now from to (nat_le from to && (wall_at (parts rule.now) text.now from && wall_at (parts rule.now) text.now to)) }
     ensures alone { result ≡ Ok true → InThree (run rule.now) text.now from to }
 {
     let starts = rule.wall(text, from)?;

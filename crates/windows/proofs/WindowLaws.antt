@@ -3,7 +3,7 @@ use Rattle.std.proofs.Common.{◌≡◌, ℕ, ◌+◌, ◌-◌, ◌<◌, ◌≤�
 use Rattle.std.proofs.lemmas.List.{length-set, take-set-le, drop-set-lt}
 use Rattle.std.proofs.lemmas.Bool.{cases_lt, and_parts, both_ways}
 use Rattle.rules.specs.Cutting.{cutting, Bounded, Joined}
-use Rattle.rules.specs.Answers.{wall-at}
+use Rattle.rules.specs.Answers.{wall_at}
 use Rattle.rules.proofs.Lawful.{wall_joined}
 use Rattle.rules.proofs.WallLaws.{inside, Parted, parted_inside}
 use Rattle.windows.specs.Windows.{runs, gained, both_walls, window_begin, window_end, IsWindow, SameOutside}
@@ -51,7 +51,7 @@ module _ (parts : List ℕ → List ℕ → Bool) (xs ys : List ℕ) (p : ℕ) w
 module _ (run : List ℕ → ℕ) (b : Bounded run) (parts : List ℕ → List ℕ → Bool) (joins : (before after : List ℕ) → parts before after ≡ true → Joined run before after) where
   pub both_parted : (xs ys : List ℕ) (q : ℕ) → both_walls parts xs ys q ≡ true → Parted run b xs q × Parted run b ys q
   both_parted xs ys q e =
-      let walls = and_parts (wall-at parts xs q) (wall-at parts ys q) e in
+      let walls = and_parts (wall_at parts xs q) (wall_at parts ys q) e in
       (wall_joined run b parts joins xs q walls.0, wall_joined run b parts joins ys q walls.1)
 
   module _ (xs : List ℕ) (p v : ℕ) where

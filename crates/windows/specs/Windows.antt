@@ -1,7 +1,7 @@
 -- What a change of one byte upsets. The text before is xs, the text after is ys, of the same length.
 use Rattle.std.specs.Prelude.{◌≡◌, ℕ, zero, suc, ◌+◌, ◌-◌, ◌<◌, ◌≤◌, Bool, true, false, cond, ◌&&◌, List, length, ℤ, pos, ◌+ℤ◌, ◌-ℤ◌}
 use Rattle.rules.specs.Cutting.{cutting}
-use Rattle.rules.specs.Answers.{wall-at}
+use Rattle.rules.specs.Answers.{wall_at}
 use Rattle.rules.specs.Runs.{RunAt}
 
 -- how many runs a text has
@@ -14,7 +14,7 @@ gained run xs ys = pos (runs run ys) -ℤ pos (runs run xs)
 
 -- a wall of both texts stands at a place
 abbrev pub both_walls : (List ℕ → List ℕ → Bool) → List ℕ → List ℕ → ℕ → Bool
-both_walls parts xs ys q = wall-at parts xs q && wall-at parts ys q
+both_walls parts xs ys q = wall_at parts xs q && wall_at parts ys q
 
 -- the greatest place up to p that passes a test; 0 where none does
 unfoldable pub greatest : (ℕ → Bool) → ℕ → ℕ

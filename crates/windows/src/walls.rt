@@ -1,5 +1,5 @@
 ghost use Rattle.std.specs.Prelude.{◌≡◌, ◌<◌, ◌≤◌, true, length, slice_set};
-ghost use Rattle.rules.specs.Answers.{wall-at, wall-of};
+ghost use Rattle.rules.specs.Answers.{wall_at, wall_of};
 ghost use Rattle.windows.specs.Windows.{both_walls, greatest};
 
 use crate::trial::Trial;
@@ -9,8 +9,8 @@ use rules::{Rule, is_wall};
 /// The greatest wall of a text that is not above a place.
 pub fn wall_not_above<R: Rule>(rule: &R, text: &[u8], place: usize) -> usize
     requires { (length text.now ≤ 16383) × (place < length text.now) }
-    ensures value { result ≡ greatest (wall-at (parts rule.now) text.now) place }
-    ensures wall { wall-at (parts rule.now) text.now result ≡ true }
+    ensures value { result ≡ greatest (wall_at (parts rule.now) text.now) place }
+    ensures wall { wall_at (parts rule.now) text.now result ≡ true }
     ensures within { result ≤ place }
 {
     let mut at = place;
@@ -31,7 +31,7 @@ fn wall_after<R: Rule>(
 ) -> Result<bool, Refusal>
     requires { place < length text.old }
     ensures restored { text.new ≡ text.old }
-    ensures value { result ≡ wall-of (parts rule.now) (slice_set text.old place byte) at }
+    ensures value { result ≡ wall_of (parts rule.now) (slice_set text.old place byte) at }
 {
     let trial = Trial::begin(text, place, byte);
     let wall = rule.wall(trial.view(), at)?;

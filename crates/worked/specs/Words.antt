@@ -5,7 +5,7 @@ use Rattle.refusals.specs.declared.Refusal.{Refusal}
 use Rattle.refusals.specs.declared.Report.{Report}
 use Rattle.refusals.specs.Reports.{report_of}
 use Rattle.rules.specs.Cutting.{cutting}
-use Rattle.rules.specs.Answers.{wall-at}
+use Rattle.rules.specs.Answers.{wall_at}
 use Rattle.tables.specs.Layout.{states, classes}
 use Rattle.tables.specs.Verdicts.{Sound, SureCount, Refused}
 use Rattle.tables.specs.Steady.{SteadyChecked}
@@ -22,7 +22,7 @@ use Rattle.books.specs.Plain.{opened, answers}
 -- the places of a text at which walls stand, of n places from p on
 unfoldable pub walls_from : (List ℕ → List ℕ → Bool) → List ℕ → ℕ → ℕ → List ℕ
 walls_from parts text p zero = []
-walls_from parts text p (suc n) = cond (wall-at parts text p) (p ∷ []) [] ++ walls_from parts text (suc p) n
+walls_from parts text p (suc n) = cond (wall_at parts text p) (p ∷ []) [] ++ walls_from parts text (suc p) n
 
 -- the places of a text at which walls stand, from 0 rising
 abbrev pub walls : (List ℕ → List ℕ → Bool) → List ℕ → List ℕ

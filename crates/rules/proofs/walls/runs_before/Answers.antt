@@ -1,7 +1,7 @@
 use Rattle.std.proofs.Common.{◌≡◌, ℕ, true, cond, length, take, Some, None, sym, ap, ◌∙◌, arith, rules}
 use Rattle.std.proofs.lemmas.Bool.{cond-true}
 use Rattle.rules.specs.Cutting.{cutting}
-use Rattle.rules.specs.Answers.{wall-at}
+use Rattle.rules.specs.Answers.{wall_at}
 use Rattle.rules.specs.Walls.{starts_below}
 use Rattle.rules.proofs.Lawful.{accepted, answers, wall_joined}
 use Rattle.rules.proofs.WallLaws.{parted_number, parted_uncrossed}
@@ -27,12 +27,12 @@ returns g c =
     let run = g.R.Rule.run rule in
     let parts = g.R.Rule.parts rule in
     let b = g.met.R.Rule.bounds rule in
-    let was = accepted text place (wall-at parts text place) c.in-ok-wall.field-0 c.in-ok-wall.ensures in
-    let wall : wall-at parts text place ≡ true = sym was.2 ∙ c.if-not-branch.false in
+    let was = accepted text place (wall_at parts text place) c.in-ok-wall.field-0 c.in-ok-wall.ensures in
+    let wall : wall_at parts text place ≡ true = sym was.2 ∙ c.if-not-branch.false in
     let parted = wall_joined run b parts (g.met.R.Rule.joins rule) text place wall in
     let counted : c.count-runs.result ≡ length (cutting run (take place text)) = search rules in
     let some = λ (n : ℕ) (e : c.count-runs.result ≡ n).
-    answers text place (cond (wall-at parts text place) (Some n) None) was.0 was.1 (Some c.count-runs.result) (ap (λ (m : ℕ). Some m) e ∙ sym (cond-true _ _ _ wall)) in
+    answers text place (cond (wall_at parts text place) (Some n) None) was.0 was.1 (Some c.count-runs.result) (ap (λ (m : ℕ). Some m) e ∙ sym (cond-true _ _ _ wall)) in
     record {
       alone = some (length (cutting run (take place text))) counted;
       before = some (starts_below place (cutting run text)) (counted ∙ sym (parted_number run b text place (omega (arith, was.1)) parted));

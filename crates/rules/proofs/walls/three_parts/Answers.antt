@@ -1,5 +1,5 @@
 use Rattle.std.proofs.Common.{◌≡◌, true, sym, ◌∙◌, rules}
-use Rattle.rules.specs.Answers.{wall-at}
+use Rattle.rules.specs.Answers.{wall_at}
 use Rattle.rules.proofs.Lawful.{accepted, wall_joined}
 use Rattle.rules.proofs.WallLaws.{parted_three}
 use Rattle.rules.proofs.walls.three_parts.Goals as goal
@@ -13,8 +13,8 @@ returns-then-starts g c =
     let run = g.R.Rule.run rule in
     let parts = g.R.Rule.parts rule in
     let b = g.met.R.Rule.bounds rule in
-    let at_from = accepted text from (wall-at parts text from) c.in-ok-starts.starts c.in-ok-starts.ensures in
-    let at-to = accepted text to (wall-at parts text to) c.in-ok-ends.ends c.in-ok-ends.ensures in
+    let at_from = accepted text from (wall_at parts text from) c.in-ok-starts.starts c.in-ok-starts.ensures in
+    let at-to = accepted text to (wall_at parts text to) c.in-ok-ends.ends c.in-ok-ends.ensures in
     let joined = wall_joined run b parts (g.met.R.Rule.joins rule) text in
     record {
       answer = search rules;

@@ -1,5 +1,5 @@
 use Rattle.std.proofs.Common.{◌≡◌, arith, rules}
-use Rattle.rules.specs.Answers.{wall-at}
+use Rattle.rules.specs.Answers.{wall_at}
 use Rattle.rules.specs.Lines.{line_parts}
 use Rattle.rules.specs.Cuts.{last_take}
 use Rattle.rules.proofs.Lawful.{answers, wall_past}
@@ -11,4 +11,4 @@ returns c =
     let place = c.args.place in
     let before = last_take text place (omega arith) (omega arith) in
     let past = wall_past line_parts text place (omega arith) in
-    answers text place (wall-at line_parts text place) (omega arith) (omega arith) _ (search rules)
+    answers text place (wall_at line_parts text place) (omega arith) (omega arith) _ (search rules)

@@ -1,6 +1,6 @@
 use Rattle.std.proofs.Common.{◌≡◌, ℕ, ◌+◌, ◌<◌, ◌≤◌, Bool, false, List, ◌∷◌, length, take, drop, sym, ap, ◌∙◌, arith}
 use Rattle.automata.specs.Sure.{holds}
-use Rattle.rules.specs.Answers.{wall-at}
+use Rattle.rules.specs.Answers.{wall_at}
 use Rattle.rules.proofs.Lawful.{answers, wall_past}
 use Rattle.tables.specs.Classes.{leads, one_class, two_class}
 use Rattle.tables.specs.Meaning.{bytes_of}
@@ -14,7 +14,7 @@ use Rattle.breaks.proofs.rule.scan.TableRuleRule.wall.Goals as goal
 
 -- the wall of a place past the start, as the characters of the whole text tell
 walled : (r : TableRule) (text : List ℕ) (place : ℕ) → 1 ≤ place → place < length text
-    → wall-at (parts_of r) text place ≡ parted (holds r.table.sure.rows) place (characters (bytes_of r.table) text)
+    → wall_at (parts_of r) text place ≡ parted (holds r.table.sure.rows) place (characters (bytes_of r.table) text)
 walled r text place h l =
     let b = bytes_of r.table in
     wall_past (parts_of r) text place h ∙ parted_at (holds r.table.sure.rows) (leads b) (one_class b) (two_class b) text place (omega arith)
@@ -28,7 +28,7 @@ returns-then-start-before c =
     let e = c.character-at-before.ensures in
     let u = c.character-at-before.result in
     let first : 1 ≤ place = let ne = c.if-place-eq0.false in omega arith in
-    answers text place (wall-at (parts_of r) text place) c.if-text-gt-LIMIT.false c.if-place-text.false false
+    answers text place (wall_at (parts_of r) text place) c.if-text-gt-LIMIT.false c.if-place-text.false false
     (sym (walled r text place first c.if-place-text.false
     ∙ parted_amid (leads b) (one_class b) (two_class b) (holds r.table.sure.rows) text place (omega arith) c.if-place-text.false c.character-start-start.result c.character-start-start.ensures.value (char u.size u.class) e.some e.reads c.if-start-before.true))
 
@@ -48,5 +48,5 @@ returns c =
     ∙ parted_between (leads b) (one_class b) (two_class b) (holds r.table.sure.rows) text place (omega arith) c.if-place-text.false c.character-start-start.result c.character-start-start.ensures.value (char u.size u.class) e.some e.reads c.if-start-before.false
     (char v.size v.class) (characters b (drop (place + v.size) text)) f.reads in
     let told = c.is-sure.ensures in
-    let same : ◌≡◌ {A = Bool} c.is-sure.result (wall-at (parts_of r) text place) = cc in
-    answers text place (wall-at (parts_of r) text place) c.if-text-gt-LIMIT.false c.if-place-text.false c.is-sure.result same
+    let same : ◌≡◌ {A = Bool} c.is-sure.result (wall_at (parts_of r) text place) = cc in
+    answers text place (wall_at (parts_of r) text place) c.if-text-gt-LIMIT.false c.if-place-text.false c.is-sure.result same
