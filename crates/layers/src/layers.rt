@@ -28,7 +28,7 @@ pub fn layer_end<R: Rule, S: Seam>(
     text: &[u8],
     place: usize,
 ) -> Result<usize, Refusal>
-    ensures { result ≡ end_of (layer_run (glues seam.now) (run below.now)) text.now place }
+    ensures { result ≡ end_of (layer_run (S.glues seam.now) (R.run below.now)) text.now place }
 {
     let mut at = below.end(text, place)?;
     while at < text.len() && seam.glued(text[at - 1], text[at]) {
@@ -44,7 +44,7 @@ pub fn layer_wall<R: Rule, S: Seam>(
     text: &[u8],
     place: usize,
 ) -> Result<bool, Refusal>
-    ensures { result ≡ wall_of (layer_parts (glues seam.now) (parts below.now)) text.now place }
+    ensures { result ≡ wall_of (layer_parts (S.glues seam.now) (R.parts below.now)) text.now place }
 {
     let wall = below.wall(text, place)?;
     if place == 0 {

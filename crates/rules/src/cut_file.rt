@@ -8,7 +8,7 @@ use refusals::Refusal;
 /// How many runs a text has, where no rule refuses it.
 pub fn count_runs<R: Rule>(rule: &R, text: &[u8]) -> usize
     requires { length text.now ≤ 16383 }
-    ensures { result ≡ length (cutting (run rule.now) text.now) }
+    ensures { result ≡ length (cutting (R.run rule.now) text.now) }
 {
     let mut count = 0;
     let mut at = 0;
@@ -35,9 +35,9 @@ fn write_record(buffer: &mut [u8], at: usize, start: usize, end: usize)
 // Writes the record of each run, into a buffer that has room for them.
 fn write_records<R: Rule>(rule: &R, text: &[u8], buffer: &mut [u8]) -> usize
     requires short { length text.now ≤ 16383 }
-    requires room { file_size (run rule.now) text.now ≤ length buffer.old }
-    ensures size { result ≡ file_size (run rule.now) text.now }
-    ensures bytes { buffer.new ≡ over (cut_file (run rule.now) text.now) buffer.old }
+    requires room { file_size (R.run rule.now) text.now ≤ length buffer.old }
+    ensures size { result ≡ file_size (R.run rule.now) text.now }
+    ensures bytes { buffer.new ≡ over (cut_file (R.run rule.now) text.now) buffer.old }
 {
     let mut filled = 0;
     let mut at = 0;
@@ -52,8 +52,8 @@ fn write_records<R: Rule>(rule: &R, text: &[u8], buffer: &mut [u8]) -> usize
 
 /// Writes the cut file of a text into a buffer, and answers how many bytes it has. A refusal leaves the buffer as it was.
 pub fn write_cut_file<R: Rule>(rule: &R, text: &[u8], buffer: &mut [u8]) -> Result<usize, Refusal>
-    ensures answer { result ≡ written (run rule.now) text.now (length buffer.old) }
-    ensures bytes { buffer.new ≡ (if is_ok result then over (cut_file (run rule.now) text.now) buffer.old else buffer.old) }
+    ensures answer { result ≡ written (R.run rule.now) text.now (length buffer.old) }
+    ensures bytes { buffer.new ≡ (if is_ok result then over (cut_file (R.run rule.now) text.now) buffer.old else buffer.old) }
 {
     if text.len() > LIMIT {
         return Err(Refusal::TextTooLong(text.len()));

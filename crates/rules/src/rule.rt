@@ -32,7 +32,7 @@ pub trait Rule {
 /// Where the run from a place ends, in a text that no rule refuses.
 pub fn run_end<R: Rule>(rule: &R, text: &[u8], place: usize) -> usize
     requires { (length text.now ≤ 16383) × (place < length text.now) }
-    ensures value { result ≡ place + run rule.now (drop place text.now) }
+    ensures value { result ≡ place + R.run rule.now (drop place text.now) }
     ensures some { place < result }
     ensures within { result ≤ length text.now }
 {
@@ -45,8 +45,8 @@ pub fn run_end<R: Rule>(rule: &R, text: &[u8], place: usize) -> usize
 /// Whether a wall stands at a place, in a text that no rule refuses.
 pub fn is_wall<R: Rule>(rule: &R, text: &[u8], place: usize) -> bool
     requires { (length text.now ≤ 16383) × (place < length text.now) }
-    ensures value { result ≡ wall_at (parts rule.now) text.now place }
-    ensures joined { result ≡ true → Joined (run rule.now) (take place text.now) (drop place text.now) }
+    ensures value { result ≡ wall_at (R.parts rule.now) text.now place }
+    ensures joined { result ≡ true → Joined (R.run rule.now) (take place text.now) (drop place text.now) }
 {
     let Ok(wall) = rule.wall(text, place) else {
         return unreachable();

@@ -10,9 +10,9 @@ use refusals::Refusal;
 /// How many runs there are before a wall, counted in the text before it alone; None where no wall stands. No run
 /// crosses a wall.
 pub fn runs_before<R: Rule>(rule: &R, text: &[u8], place: usize) -> Result<Option<usize>, Refusal>
-    ensures alone { result ≡ at_wall (parts rule.now) text.now place (length (cutting (run rule.now) (take place text.now))) }
-    ensures before { result ≡ at_wall (parts rule.now) text.now place (starts_below place (cutting (run rule.now) text.now)) }
-    ensures uncrossed { wall_at (parts rule.now) text.now place ≡ true → Uncrossed place (cutting (run rule.now) text.now) }
+    ensures alone { result ≡ at_wall (R.parts rule.now) text.now place (length (cutting (R.run rule.now) (take place text.now))) }
+    ensures before { result ≡ at_wall (R.parts rule.now) text.now place (starts_below place (cutting (R.run rule.now) text.now)) }
+    ensures uncrossed { wall_at (R.parts rule.now) text.now place ≡ true → Uncrossed place (cutting (R.run rule.now) text.now) }
 {
     if !rule.wall(text, place)? {
         return Ok(None);
@@ -23,8 +23,8 @@ pub fn runs_before<R: Rule>(rule: &R, text: &[u8], place: usize) -> Result<Optio
 /// Whether two places are walls, the first at or before the second. The three parts of the text that they bound are then
 /// cut alone.
 pub fn three_parts<R: Rule>(rule: &R, text: &[u8], from: usize, to: usize) -> Result<bool, Refusal>
-    ensures answer { result ≡ about_places text.now from to (nat_le from to && (wall_at (parts rule.now) text.now from && wall_at (parts rule.now) text.now to)) }
-    ensures alone { result ≡ Ok true → InThree (run rule.now) text.now from to }
+    ensures answer { result ≡ about_places text.now from to (nat_le from to && (wall_at (R.parts rule.now) text.now from && wall_at (R.parts rule.now) text.now to)) }
+    ensures alone { result ≡ Ok true → InThree (R.run rule.now) text.now from to }
 {
     let starts = rule.wall(text, from)?;
     let ends = rule.wall(text, to)?;

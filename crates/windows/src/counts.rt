@@ -8,7 +8,7 @@ use rules::{Rule, run_end};
 /// elsewhere the answer is bounded and no more.
 pub fn runs_between<R: Rule>(rule: &R, text: &[u8], from: usize, to: usize) -> usize
     requires { (length text.now ≤ 16383) × ((from ≤ to) × (to ≤ length text.now)) }
-    ensures value { Joined (run rule.now) (take (to - from) (drop from text.now)) (drop to text.now) → result ≡ runs (run rule.now) (take (to - from) (drop from text.now)) }
+    ensures value { Joined (R.run rule.now) (take (to - from) (drop from text.now)) (drop to text.now) → result ≡ runs (R.run rule.now) (take (to - from) (drop from text.now)) }
     ensures few { result ≤ to - from }
     ensures small { result ≤ 16383 }
 {

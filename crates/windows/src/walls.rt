@@ -9,8 +9,8 @@ use rules::{Rule, is_wall};
 /// The greatest wall of a text that is not above a place.
 pub fn wall_not_above<R: Rule>(rule: &R, text: &[u8], place: usize) -> usize
     requires { (length text.now ≤ 16383) × (place < length text.now) }
-    ensures value { result ≡ greatest (wall_at (parts rule.now) text.now) place }
-    ensures wall { wall_at (parts rule.now) text.now result ≡ true }
+    ensures value { result ≡ greatest (wall_at (R.parts rule.now) text.now) place }
+    ensures wall { wall_at (R.parts rule.now) text.now result ≡ true }
     ensures within { result ≤ place }
 {
     let mut at = place;
@@ -31,7 +31,7 @@ fn wall_after<R: Rule>(
 ) -> Result<bool, Refusal>
     requires { place < length text.old }
     ensures restored { text.new ≡ text.old }
-    ensures value { result ≡ wall_of (parts rule.now) (slice_set text.old place byte) at }
+    ensures value { result ≡ wall_of (R.parts rule.now) (slice_set text.old place byte) at }
 {
     let trial = Trial::begin(text, place, byte);
     let wall = rule.wall(trial.view(), at)?;
@@ -48,7 +48,7 @@ pub fn is_wall_of_both<R: Rule>(
 ) -> bool
     requires { (length text.old ≤ 16383) × ((place < length text.old) × (at < length text.old)) }
     ensures restored { text.new ≡ text.old }
-    ensures value { result ≡ both_walls (parts rule.now) text.old (slice_set text.old place byte) at }
+    ensures value { result ≡ both_walls (R.parts rule.now) text.old (slice_set text.old place byte) at }
 {
     if !is_wall(rule, text, at) {
         return false;

@@ -19,7 +19,7 @@ pub struct Window {
 fn window_from<R: Rule>(rule: &R, text: &mut [u8], place: usize, byte: u8) -> usize
     requires { (length text.old ≤ 16383) × (place < length text.old) }
     ensures restored { text.new ≡ text.old }
-    ensures value { result ≡ window_begin (parts rule.now) text.old (slice_set text.old place byte) place }
+    ensures value { result ≡ window_begin (R.parts rule.now) text.old (slice_set text.old place byte) place }
     ensures within { result ≤ place }
 {
     let mut from = place;
@@ -33,7 +33,7 @@ fn window_from<R: Rule>(rule: &R, text: &mut [u8], place: usize, byte: u8) -> us
 fn window_to<R: Rule>(rule: &R, text: &mut [u8], place: usize, byte: u8) -> usize
     requires { (length text.old ≤ 16383) × (place < length text.old) }
     ensures restored { text.new ≡ text.old }
-    ensures value { result ≡ window_end (parts rule.now) text.old (slice_set text.old place byte) place }
+    ensures value { result ≡ window_end (R.parts rule.now) text.old (slice_set text.old place byte) place }
     ensures past { place < result }
     ensures within { result ≤ length text.old }
 {
@@ -49,11 +49,11 @@ fn window_to<R: Rule>(rule: &R, text: &mut [u8], place: usize, byte: u8) -> usiz
 pub fn window_of<R: Rule>(rule: &R, text: &mut [u8], place: usize, byte: u8) -> Window
     requires { (length text.old ≤ 16383) × (place < length text.old) }
     ensures restored { text.new ≡ text.old }
-    ensures from { result.from ≡ window_begin (parts rule.now) text.old (slice_set text.old place byte) place }
-    ensures to { result.to ≡ window_end (parts rule.now) text.old (slice_set text.old place byte) place }
-    ensures difference { result.difference ≡ gained (run rule.now) text.old (slice_set text.old place byte) }
-    ensures is_window { IsWindow (parts rule.now) text.old (slice_set text.old place byte) place result.from result.to }
-    ensures outside { SameOutside (cutting (run rule.now) text.old) (cutting (run rule.now) (slice_set text.old place byte)) result.from result.to result.difference }
+    ensures from { result.from ≡ window_begin (R.parts rule.now) text.old (slice_set text.old place byte) place }
+    ensures to { result.to ≡ window_end (R.parts rule.now) text.old (slice_set text.old place byte) place }
+    ensures difference { result.difference ≡ gained (R.run rule.now) text.old (slice_set text.old place byte) }
+    ensures is_window { IsWindow (R.parts rule.now) text.old (slice_set text.old place byte) place result.from result.to }
+    ensures outside { SameOutside (cutting (R.run rule.now) text.old) (cutting (R.run rule.now) (slice_set text.old place byte)) result.from result.to result.difference }
     ensures within { (result.from ≤ place) × ((place < result.to) × (result.to ≤ length text.old)) }
     ensures small { (neg_ℤ (pos 16383) ≤ℤ result.difference) × (result.difference ≤ℤ pos 16383) }
 {

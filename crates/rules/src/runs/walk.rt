@@ -8,7 +8,7 @@ use crate::rule::{Rule, run_end};
 /// The run over a place, with runs taken and numbered from `from` on until one ends past the place.
 pub fn walk_to<R: Rule>(rule: &R, text: &[u8], from: usize, place: usize) -> Run
     requires { (length text.now ≤ 16383) × ((from ≤ place) × (place < length text.now)) }
-    ensures value { result ≡ over_from (run rule.now) text.now from place }
+    ensures value { result ≡ over_from (R.run rule.now) text.now from place }
     ensures start { (from ≤ result.start) × (result.start ≤ place) }
     ensures end { (place < result.end) × (result.end ≤ length text.now) }
     ensures few { result.number + from ≤ result.start }
@@ -28,7 +28,7 @@ pub fn walk_to<R: Rule>(rule: &R, text: &[u8], from: usize, place: usize) -> Run
 /// The run that so many runs from `from` on come before, where there is one.
 pub fn walk_past<R: Rule>(rule: &R, text: &[u8], from: usize, count: usize) -> Option<Run>
     requires { (length text.now ≤ 16383) × (from ≤ length text.now) }
-    ensures { MatchOption result (length (cutting (run rule.now) (drop from text.now)) ≤ count) (λ v. (count < length (cutting (run rule.now) (drop from text.now))) × (v ≡ nth_from from (cutting (run rule.now) (drop from text.now)) count) × (v.start < v.end) × (v.end ≤ length text.now)) }
+    ensures { MatchOption result (length (cutting (R.run rule.now) (drop from text.now)) ≤ count) (λ v. (count < length (cutting (R.run rule.now) (drop from text.now))) × (v ≡ nth_from from (cutting (R.run rule.now) (drop from text.now)) count) × (v.start < v.end) × (v.end ≤ length text.now)) }
 {
     let mut number = 0;
     let mut start = from;

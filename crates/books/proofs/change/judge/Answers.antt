@@ -19,33 +19,33 @@ left_is g c =
     let parts = g.R.Rule.parts c.args.rule.now in
     let pins = kept c.args.pins.now in
     let xs = c.args.text.now in
-    let found = c.window-of-window.ensures in
+    let found = c.window_of-window.ensures in
     let seen : c.view.result.now ≡ set xs c.args.place c.args.byte =
     c.view.ensures ∙ c.begin-trial.ensures.changed ∙ ap (λ (z : List ℕ). set z c.args.place c.args.byte) found.restored in
-    let f : SFits w32 c.window-of-window.result.difference = search rules in
-    let d = to_z-of_z w32 c.window-of-window.result.difference f ∙ found.difference in
+    let f : SFits w32 c.window_of-window.result.difference = search rules in
+    let d = to_z-of_z w32 c.window_of-window.result.difference f ∙ found.difference in
     c.renumber-left.ensures.value
-    ∙ ap (λ (z : List ℕ). renumbered parts z c.window-of-window.result.to (to_z w32 (of_z w32 c.window-of-window.result.difference)) pins) seen
-    ∙ ap (λ (t : ℕ). renumbered parts (set xs c.args.place c.args.byte) t (to_z w32 (of_z w32 c.window-of-window.result.difference)) pins) found.to
+    ∙ ap (λ (z : List ℕ). renumbered parts z c.window_of-window.result.to (to_z w32 (of_z w32 c.window_of-window.result.difference)) pins) seen
+    ∙ ap (λ (t : ℕ). renumbered parts (set xs c.args.place c.args.byte) t (to_z w32 (of_z w32 c.window_of-window.result.difference)) pins) found.to
     ∙ ap (λ (z : ℤ). renumbered parts (set xs c.args.place c.args.byte) (window_end parts xs (set xs c.args.place c.args.byte) c.args.place) z pins) d
 
-pub overflow-sub-result : goal.overflow-sub-result
-overflow-sub-result g c =
+pub overflow_sub-result : goal.overflow_sub-result
+overflow_sub-result g c =
     let parts = g.R.Rule.parts c.args.rule.now in
     let xs = c.args.text.now in
     let ys = set xs c.args.place c.args.byte in
-    omega (arith, c.len.ensures.value, c.len-2.ensures.value, ap length (left_is g (goal.at.overflow-sub-result g c).After-renumber-left), few_left (window_end parts xs ys c.args.place) (gained (g.R.Rule.run c.args.rule.now) xs ys) parts ys (kept c.args.pins.now))
+    omega (arith, c.len.ensures.value, c.len-2.ensures.value, ap length (left_is g (goal.at.overflow_sub-result g c).After-renumber-left), few_left (window_end parts xs ys c.args.place) (gained (g.R.Rule.run c.args.rule.now) xs ys) parts ys (kept c.args.pins.now))
 
 pub returns : goal.returns
 returns g c =
     let xs = c.args.text.now in
-    let found = c.window-of-window.ensures in
-    let f : SFits w32 c.window-of-window.result.difference = search rules in
+    let found = c.window_of-window.ensures in
+    let f : SFits w32 c.window_of-window.result.difference = search rules in
     let left = left_is g (goal.at.returns g c).After-renumber-left in
     record {
       restored = search (rules, set-set, set-get_or);
       change =
-          same-change _ _ _ _ _ _ _ _ found.from found.to (to_z-of_z w32 c.window-of-window.result.difference f ∙ found.difference)
+          same-change _ _ _ _ _ _ _ _ found.from found.to (to_z-of_z w32 c.window_of-window.result.difference f ∙ found.difference)
           (ap (λ (n : ℕ). n - c.len-2.result) c.len.ensures.value
           ∙ dropped_is _ _ (g.R.Rule.parts c.args.rule.now) (set xs c.args.place c.args.byte) (kept c.args.pins.now) c.len-2.result (c.len-2.ensures.value ∙ ap length left));
       pins = left;

@@ -18,8 +18,8 @@ returns-in-Ok c =
     let text = c.args.text.now in
     let old = c.args.buffer.now in
     let e = c.in-Ok.ensures in
-    let w = c.write-cut-file.ensures in
-    let r = c.write-cut-file.result in
+    let w = c.write_cut_file.ensures in
+    let r = c.write_cut_file.result in
     let answer : r ≡ written (table_run b) text (length old) = w.answer ∙ ap (λ (l : List ℕ). written (table_run l) text (length old)) e.bytes_is in
     record {
       page = inl record {

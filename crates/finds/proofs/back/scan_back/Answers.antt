@@ -28,8 +28,8 @@ pub code-code-requires : goal.code-code-requires
 code-code-requires c =
     let m = c.backward-backward.ensures in
     let state = c.loop-at.invariant.3 in
-    let class = c.character-at-here.ensures.low in
-    (c.loop-at.invariant.2, (subst (λ (n : ℕ). c.loop-at.state < n) (sym m.states) state, subst (λ (n : ℕ). c.character-at-here.result.class < n) (sym m.classes) class))
+    let class = c.character_at-here.ensures.low in
+    (c.loop-at.invariant.2, (subst (λ (n : ℕ). c.loop-at.state < n) (sym m.states) state, subst (λ (n : ℕ). c.character_at-here.result.class < n) (sym m.classes) class))
 
 pub loop-at-preserved : goal.loop-at-preserved
 loop-at-preserved c =
@@ -37,12 +37,12 @@ loop-at-preserved c =
     let b = bytes_of t in
     let text = c.args.text.now in
     let at = c.loop-at.at in
-    let low_end = c.stretch-before-stretch.result in
+    let low_end = c.stretch_before-stretch.result in
     let start = at - 1 - (at - 1 - low_end) % 2 in
-    let parity = ap (λ (n : ℕ). n % 2) c.stretch-before-stretch.ensures.value in
+    let parity = ap (λ (n : ℕ). n % 2) c.stretch_before-stretch.ensures.value in
     let x = c.code-code.result in
-    let u = c.character-at-here.result in
-    let e = c.character-at-here.ensures in
+    let u = c.character_at-here.result in
+    let e = c.character_at-here.ensures in
     let inside : at ≤ length text = let h = c.loop-at.invariant.0 in let l = c.requires in omega arith in
     let mark : c.if-code-ge128.mark ≡ mark_at x start c.loop-at.mark =
     elim c.if-code-ge128.branch [
@@ -59,7 +59,7 @@ loop-at-preserved c =
       (let ne = c.if-state-eq0.false in omega arith),
       subst (λ (n : ℕ). next x < n) c.backward-backward.ensures.states c.code-code.ensures.below,
       ap (λ (m : ℕ). go_back (machine b Backward) (next x) m (reverse (starting_below start (characters b text)))) mark ∙ sym on ∙ c.loop-at.invariant.4,
-      λ l. leads_inside (leads b) text low_end (at - 1) (start - 1) (omega arith) (omega arith) c.stretch-before-stretch.ensures.value,
+      λ l. leads_inside (leads b) text low_end (at - 1) (start - 1) (omega arith) (omega arith) c.stretch_before-stretch.ensures.value,
     )
 
 pub returns-then-state-eq0 : goal.returns-then-state-eq0
@@ -68,12 +68,12 @@ returns-then-state-eq0 c =
     let b = bytes_of t in
     let text = c.args.text.now in
     let at = c.loop-at.at in
-    let low_end = c.stretch-before-stretch.result in
+    let low_end = c.stretch_before-stretch.result in
     let start = at - 1 - (at - 1 - low_end) % 2 in
-    let parity = ap (λ (n : ℕ). n % 2) c.stretch-before-stretch.ensures.value in
+    let parity = ap (λ (n : ℕ). n % 2) c.stretch_before-stretch.ensures.value in
     let x = c.code-code.result in
-    let u = c.character-at-here.result in
-    let e = c.character-at-here.ensures in
+    let u = c.character_at-here.result in
+    let e = c.character_at-here.ensures in
     let inside : at ≤ length text = let h = c.loop-at.invariant.0 in let l = c.requires in omega arith in
     let mark : c.if-code-ge128.mark ≡ mark_at x start c.loop-at.mark =
     elim c.if-code-ge128.branch [

@@ -14,7 +14,7 @@ returns c =
     let b = bytes_of t in
     let text = c.args.text.now in
     let place = c.args.place in
-    let run = c.walk-to-run.result in
+    let run = c.walk_to-run.result in
     let from = c.begin-from.result in
     let from_is : from ≡ begin b text place = search rules in
     let run_is : run ≡ over_from (table_run b) text from place = search rules in
@@ -22,7 +22,7 @@ returns c =
     let is : span_of run ≡ found b text place = ap span_of (run_is ∙ ap (λ (n : ℕ). over_from (table_run b) text n place) from_is) in
     record {
       value = answers text place (found b text place) c.if-text-gt-LIMIT.false c.if-place-text.false (span_of run) is;
-      as-cut-whole = λ steady.
+      as_cut_whole = λ steady.
           answers text place (span_of (run_over_byte (cutting (table_run b) text) place)) c.if-text-gt-LIMIT.false c.if-place-text.false (span_of run)
           (is ∙ found_whole t steady text place low c.if-place-text.false);
     }

@@ -11,7 +11,7 @@ returns-then-wall g c =
     let place = c.args.place in
     let parts = g.R.Rule.parts c.args.below.now in
     let glues = g.S.Seam.glues c.args.seam.now in
-    let was = accepted text place (wall_at parts text place) c.in-ok-wall.wall c.in-ok-wall.ensures in
+    let was = accepted text place (wall_at parts text place) c.in_ok-wall.wall c.in_ok-wall.ensures in
     let below = was.2 in
     let is = layer_wall glues parts text place (omega arith) was.1 in
     answers text place (wall_at (layer_parts glues parts) text place) was.0 was.1 _ (cc)

@@ -8,8 +8,8 @@ pub loop-at-preserved : goal.loop-at-preserved
 loop-at-preserved g c =
     let text = c.args.text.now in
     let run = g.R.Rule.run c.args.rule.now in
-    let step = ap (λ (l : List _). length l) (cutting_from run (g.met.R.Rule.bounds c.args.rule.now) text c.loop-at.at c.run-end-at.result c.loop-at-test.true c.run-end-at.ensures.value) in
-    (c.run-end-at.ensures.within, omega arith, omega arith)
+    let step = ap (λ (l : List _). length l) (cutting_from run (g.met.R.Rule.bounds c.args.rule.now) text c.loop-at.at c.run_end-at.result c.loop-at-test.true c.run_end-at.ensures.value) in
+    (c.run_end-at.ensures.within, omega arith, omega arith)
 
 pub returns : goal.returns
 returns g c =

@@ -16,10 +16,10 @@ module _ (run : List ℕ → ℕ) (b : Bounded run) (text : List ℕ) (at end : 
       ap (records at) (cutting_from run b text at end h e)
       ∙ ap (λ (n : ℕ). record_of at n ++ records n (cutting run (drop end text))) (sym e)
 
-pub write-record-requires : goal.write-record-requires
-write-record-requires g c =
+pub write_record-requires : goal.write_record-requires
+write_record-requires g c =
     let text = c.args.text.now in
-    let f = fewer (g.R.Rule.run c.args.rule.now) (g.met.R.Rule.bounds c.args.rule.now) text c.loop-at.at c.run-end-end.result (omega arith) c.run-end-end.ensures.value in
+    let f = fewer (g.R.Rule.run c.args.rule.now) (g.met.R.Rule.bounds c.args.rule.now) text c.loop-at.at c.run_end-end.result (omega arith) c.run_end-end.ensures.value in
     let r = c.requires.room in
     let short = c.requires.short in
     (omega arith, (omega arith, omega arith))
@@ -30,18 +30,18 @@ loop-at-preserved g c =
     let run = g.R.Rule.run c.args.rule.now in
     let b = g.met.R.Rule.bounds c.args.rule.now in
     let at = c.loop-at.at in
-    let end = c.run-end-end.result in
+    let end = c.run_end-end.result in
     let n = c.loop-at.filled in
     let buffer = c.loop-at.buffer in
-    let f = fewer run b text at end (omega arith) c.run-end-end.ensures.value in
+    let f = fewer run b text at end (omega arith) c.run_end-end.ensures.value in
     let r = c.requires.room in
     let room : n + 4 ≤ length buffer = omega arith in
-    let was : c.write-record.new.buffer ≡ take n buffer ++ (record_of at end ++ drop (n + 4) buffer) = search rules in (
-      c.run-end-end.ensures.within,
+    let was : c.write_record.new.buffer ≡ take n buffer ++ (record_of at end ++ drop (n + 4) buffer) = search rules in (
+      c.run_end-end.ensures.within,
       omega arith,
       ap (λ (l : List ℕ). take (n + 4) l ++ records end (cutting run (drop end text))) was
           ∙ filled_more buffer n at end (records end (cutting run (drop end text))) (cut_file run text) room
-          (ap (λ (l : List ℕ). take n buffer ++ l) (sym (next-record run b text at end (omega arith) c.run-end-end.ensures.value)) ∙ c.loop-at.invariant.2),
+          (ap (λ (l : List ℕ). take n buffer ++ l) (sym (next-record run b text at end (omega arith) c.run_end-end.ensures.value)) ∙ c.loop-at.invariant.2),
       ap (drop (n + 4)) was ∙ past_more buffer n at end room
           ∙ sym (drop-drop 4 n buffer) ∙ ap (drop 4) c.loop-at.invariant.3 ∙ drop-drop 4 n c.args.buffer.now,
     )

@@ -7,8 +7,8 @@ use Rattle.rules.proofs.Lawful.{accepted, answers, wall_joined}
 use Rattle.rules.proofs.WallLaws.{parted_number, parted_uncrossed}
 use Rattle.rules.proofs.walls.runs_before.Goals as goal
 
-pub returns-in-err-wall : goal.returns-in-err-wall
-returns-in-err-wall g c =
+pub returns-in_err-wall : goal.returns-in_err-wall
+returns-in_err-wall g c =
     let text = c.args.text.now in
     let place = c.args.place in
     let rule = c.args.rule.now in
@@ -27,12 +27,12 @@ returns g c =
     let run = g.R.Rule.run rule in
     let parts = g.R.Rule.parts rule in
     let b = g.met.R.Rule.bounds rule in
-    let was = accepted text place (wall_at parts text place) c.in-ok-wall.field-0 c.in-ok-wall.ensures in
+    let was = accepted text place (wall_at parts text place) c.in_ok-wall.field-0 c.in_ok-wall.ensures in
     let wall : wall_at parts text place ≡ true = sym was.2 ∙ c.if-not-branch.false in
     let parted = wall_joined run b parts (g.met.R.Rule.joins rule) text place wall in
-    let counted : c.count-runs.result ≡ length (cutting run (take place text)) = search rules in
-    let some = λ (n : ℕ) (e : c.count-runs.result ≡ n).
-    answers text place (cond (wall_at parts text place) (Some n) None) was.0 was.1 (Some c.count-runs.result) (ap (λ (m : ℕ). Some m) e ∙ sym (cond-true _ _ _ wall)) in
+    let counted : c.count_runs.result ≡ length (cutting run (take place text)) = search rules in
+    let some = λ (n : ℕ) (e : c.count_runs.result ≡ n).
+    answers text place (cond (wall_at parts text place) (Some n) None) was.0 was.1 (Some c.count_runs.result) (ap (λ (m : ℕ). Some m) e ∙ sym (cond-true _ _ _ wall)) in
     record {
       alone = some (length (cutting run (take place text))) counted;
       before = some (starts_below place (cutting run text)) (counted ∙ sym (parted_number run b text place (omega (arith, was.1)) parted));

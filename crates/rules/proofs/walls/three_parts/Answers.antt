@@ -13,12 +13,12 @@ returns-then-starts g c =
     let run = g.R.Rule.run rule in
     let parts = g.R.Rule.parts rule in
     let b = g.met.R.Rule.bounds rule in
-    let at_from = accepted text from (wall_at parts text from) c.in-ok-starts.starts c.in-ok-starts.ensures in
-    let at-to = accepted text to (wall_at parts text to) c.in-ok-ends.ends c.in-ok-ends.ensures in
+    let at_from = accepted text from (wall_at parts text from) c.in_ok-starts.starts c.in_ok-starts.ensures in
+    let at-to = accepted text to (wall_at parts text to) c.in_ok-ends.ends c.in_ok-ends.ensures in
     let joined = wall_joined run b parts (g.met.R.Rule.joins rule) text in
     record {
       answer = search rules;
       alone = λ e.
-          let ends : c.in-ok-ends.ends ≡ true = cc in
+          let ends : c.in_ok-ends.ends ≡ true = cc in
           parted_three run b text from to c.if-starts.true.0 (joined from (sym at_from.2 ∙ c.if-starts.true.1)) (joined to (sym at-to.2 ∙ ends));
     }

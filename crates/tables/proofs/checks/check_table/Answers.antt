@@ -13,51 +13,51 @@ use Rattle.tables.proofs.checks.check_table.Goals as goal
 codes-in : (b : List ℕ) (d : Direction) → Passes (header_checks b) → Passes (list_checks b d) → code_place b d (code_count b d) ≤ length b
 codes-in b d h l = let rows = (listed b d l).rows_in in let whole = (head b h).size_high in omega arith
 
-pub returns-in-err-check-header : goal.returns-in-err-check-header
-returns-in-err-check-header c =
+pub returns-in_err-check_header : goal.returns-in_err-check_header
+returns-in_err-check_header c =
     let b = c.args.bytes.now in
     let p = err_from_is_err_and c.from-residual.result c.from-residual.ensures.1 in
-    rw (p.1, p.2) (header_fails b _ c.in-err-check-header.ensures)
+    rw (p.1, p.2) (header_fails b _ c.in_err-check_header.ensures)
 
-pub returns-in-err-check-list : goal.returns-in-err-check-list
-returns-in-err-check-list c =
+pub returns-in_err-check_list : goal.returns-in_err-check_list
+returns-in_err-check_list c =
     let b = c.args.bytes.now in
-    let p = err_from_is_err_and c.from-residual-in-err-check-list.result c.from-residual-in-err-check-list.ensures.1 in
-    rw (p.1, p.2) (forward_fails b c.in-ok-check-header.ensures _ c.in-err-check-list.ensures)
+    let p = err_from_is_err_and c.from-residual-in_err-check_list.result c.from-residual-in_err-check_list.ensures.1 in
+    rw (p.1, p.2) (forward_fails b c.in_ok-check_header.ensures _ c.in_err-check_list.ensures)
 
-pub returns-in-err-check-list-2 : goal.returns-in-err-check-list-2
-returns-in-err-check-list-2 c =
+pub returns-in_err-check_list-2 : goal.returns-in_err-check_list-2
+returns-in_err-check_list-2 c =
     let b = c.args.bytes.now in
-    let p = err_from_is_err_and c.from-residual-in-err-check-list-2.result c.from-residual-in-err-check-list-2.ensures.1 in
-    rw (p.1, p.2) (backward_fails b c.in-ok-check-header.ensures c.in-ok-check-list.ensures _ c.in-err-check-list-2.ensures)
+    let p = err_from_is_err_and c.from-residual-in_err-check_list-2.result c.from-residual-in_err-check_list-2.ensures.1 in
+    rw (p.1, p.2) (backward_fails b c.in_ok-check_header.ensures c.in_ok-check_list.ensures _ c.in_err-check_list-2.ensures)
 
-pub returns-in-err-check-classes : goal.returns-in-err-check-classes
-returns-in-err-check-classes c =
+pub returns-in_err-check_classes : goal.returns-in_err-check_classes
+returns-in_err-check_classes c =
     let b = c.args.bytes.now in
-    let p = err_from_is_err_and c.from-residual-in-err-check-classes.result c.from-residual-in-err-check-classes.ensures.1 in
-    rw (p.1, p.2) (classes_fail b c.in-ok-check-header.ensures c.in-ok-check-list.ensures c.in-ok-check-list-2.ensures _ c.in-err-check-classes.ensures)
+    let p = err_from_is_err_and c.from-residual-in_err-check_classes.result c.from-residual-in_err-check_classes.ensures.1 in
+    rw (p.1, p.2) (classes_fail b c.in_ok-check_header.ensures c.in_ok-check_list.ensures c.in_ok-check_list-2.ensures _ c.in_err-check_classes.ensures)
 
-pub check-codes-requires : goal.check-codes-requires
-check-codes-requires c =
+pub check_codes-requires : goal.check_codes-requires
+check_codes-requires c =
     record {
-      sound = c.in-ok-check-header.ensures;
-      inside = codes-in c.args.bytes.now Forward c.in-ok-check-header.ensures c.in-ok-check-list.ensures;
+      sound = c.in_ok-check_header.ensures;
+      inside = codes-in c.args.bytes.now Forward c.in_ok-check_header.ensures c.in_ok-check_list.ensures;
     }
 
-pub returns-in-err-check-codes : goal.returns-in-err-check-codes
-returns-in-err-check-codes c =
+pub returns-in_err-check_codes : goal.returns-in_err-check_codes
+returns-in_err-check_codes c =
     let b = c.args.bytes.now in
-    let p = err_from_is_err_and c.from-residual-in-err-check-codes.result c.from-residual-in-err-check-codes.ensures.1 in
-    rw (p.1, p.2) (forward_codes_fail b c.in-ok-check-header.ensures c.in-ok-check-list.ensures c.in-ok-check-list-2.ensures c.in-ok-check-classes.ensures _ c.in-err-check-codes.ensures)
+    let p = err_from_is_err_and c.from-residual-in_err-check_codes.result c.from-residual-in_err-check_codes.ensures.1 in
+    rw (p.1, p.2) (forward_codes_fail b c.in_ok-check_header.ensures c.in_ok-check_list.ensures c.in_ok-check_list-2.ensures c.in_ok-check_classes.ensures _ c.in_err-check_codes.ensures)
 
-pub check-codes-requires-2 : goal.check-codes-requires-2
-check-codes-requires-2 c =
+pub check_codes-requires-2 : goal.check_codes-requires-2
+check_codes-requires-2 c =
     record {
-      sound = c.in-ok-check-header.ensures;
-      inside = codes-in c.args.bytes.now Backward c.in-ok-check-header.ensures c.in-ok-check-list-2.ensures;
+      sound = c.in_ok-check_header.ensures;
+      inside = codes-in c.args.bytes.now Backward c.in_ok-check_header.ensures c.in_ok-check_list-2.ensures;
     }
 
 pub returns : goal.returns
 returns c =
-    last_checked c.args.bytes.now c.in-ok-check-header.ensures c.in-ok-check-list.ensures c.in-ok-check-list-2.ensures c.in-ok-check-classes.ensures
-    c.in-ok-check-codes.ensures c.check-codes-2.result c.check-codes-2.ensures
+    last_checked c.args.bytes.now c.in_ok-check_header.ensures c.in_ok-check_list.ensures c.in_ok-check_list-2.ensures c.in_ok-check_classes.ensures
+    c.in_ok-check_codes.ensures c.check_codes-2.result c.check_codes-2.ensures

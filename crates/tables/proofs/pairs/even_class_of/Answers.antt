@@ -11,8 +11,8 @@ use Rattle.tables.proofs.Tabled.{header_passes}
 use Rattle.tables.proofs.Classed.{even_word, even_row, even_whole}
 use Rattle.tables.proofs.pairs.even_class_of.Goals as goal
 
-pub row-place-requires : goal.row-place-requires
-row-place-requires c =
+pub row_place-requires : goal.row_place-requires
+row_place-requires c =
     let b = c.args.bytes.now in
     let p = c.requires.sound.0 in
     let word = even_word b p c.args.k c.requires.sound.1.1 in
@@ -22,7 +22,7 @@ row-place-requires c =
 pub unreachable-requires : goal.unreachable-requires
 unreachable-requires c =
     let b = c.args.bytes.now in
-    both_ways (fits b (row_start b c.args.k) 256) c.in-default.ensures (even_row b c.requires.sound.0 c.args.k c.requires.sound.1.1)
+    both_ways (fits b (row_start b c.args.k) 256) c.in_default.ensures (even_row b c.requires.sound.0 c.args.k c.requires.sound.1.1)
 
 pub returns : goal.returns
 returns c =

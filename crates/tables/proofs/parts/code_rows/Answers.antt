@@ -7,12 +7,12 @@ pub returns : goal.returns
 returns c =
     let b = c.args.bytes.now in
     let d = c.args.direction in
-    let at = c.first-code-place-at.ensures.value in
-    let n = c.code-total.ensures.value in
+    let at = c.first_code_place-at.ensures.value in
+    let n = c.code_total.ensures.value in
     let room = c.requires.inside in
-    let len : c.first-code-place-at.result + c.code-total.result - c.first-code-place-at.result ≡ code_count b d = omega arith in
+    let len : c.first_code_place-at.result + c.code_total.result - c.first_code_place-at.result ≡ code_count b d = omega arith in
     record {
       value =
-          ap (λ (m : ℕ). take m (drop c.first-code-place-at.result b)) len ∙ ap (λ (m : ℕ). take (code_count b d) (drop m b)) at;
-      size = part_size b c.first-code-place-at.result c.code-total.result (omega arith) ∙ n;
+          ap (λ (m : ℕ). take m (drop c.first_code_place-at.result b)) len ∙ ap (λ (m : ℕ). take (code_count b d) (drop m b)) at;
+      size = part_size b c.first_code_place-at.result c.code_total.result (omega arith) ∙ n;
     }

@@ -6,12 +6,12 @@ use Rattle.tables.proofs.parts.code_total.Goals as goal
 pub returns : goal.returns
 returns c =
     let b = c.args.bytes.now in
-    let less : c.saturating-sub.result ≡ c.state-count.result - 1 = c.saturating-sub.ensures in
-    let s = c.state-count.ensures in
-    let k = c.class-count.ensures in
+    let less : c.saturating_sub.result ≡ c.state_count.result - 1 = c.saturating_sub.ensures in
+    let s = c.state_count.ensures in
+    let k = c.class_count.ensures in
     record {
       value =
-          ap (λ (n : ℕ). n * c.class-count.result) (less ∙ ap (λ (n : ℕ). n - 1) s.value)
+          ap (λ (n : ℕ). n * c.class_count.result) (less ∙ ap (λ (n : ℕ). n - 1) s.value)
           ∙ ap (λ (n : ℕ). (states b c.args.direction - 1) * n) k.value;
-      low = omega (arith, mul-le c.saturating-sub.result c.class-count.result 16384 32768 (omega arith) k.bound);
+      low = omega (arith, mul-le c.saturating_sub.result c.class_count.result 16384 32768 (omega arith) k.bound);
     }

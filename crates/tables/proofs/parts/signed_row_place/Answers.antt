@@ -13,7 +13,7 @@ pub returns : goal.returns
 returns c =
     let b = c.args.bytes.now in
     let f : SFits w16 c.word.result = search rules in
-    let at = c.auxiliary-place-at.ensures.value in
-    plain c.auxiliary-place-at.result c.word.result c.auxiliary-place-at.ensures.low f
-    ∙ ap (λ (z : ℤ). pos c.auxiliary-place-at.result +ℤ z) c.word.ensures
+    let at = c.auxiliary_place-at.ensures.value in
+    plain c.auxiliary_place-at.result c.word.result c.auxiliary_place-at.ensures.low f
+    ∙ ap (λ (z : ℤ). pos c.auxiliary_place-at.result +ℤ z) c.word.ensures
     ∙ ap (λ (n : ℕ). pos n +ℤ word b (n + c.args.k)) at

@@ -13,7 +13,7 @@ loop-start-preserved g c =
     let run = g.R.Rule.run rule in
     let text = c.args.text.now in
     let start = c.loop-start.start in
-    let end = c.run-end-start.result in
+    let end = c.run_end-start.result in
     let is : end ≡ start + run (drop start text) = search rules in (
       omega arith,
       omega arith,

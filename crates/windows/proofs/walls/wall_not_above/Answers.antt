@@ -9,8 +9,8 @@ loop-at-preserved g c =
     let none : wall c.loop-at.at ≡ false = search rules in
     (omega arith, greatest_down wall c.loop-at.at (omega arith) none ∙ c.loop-at.invariant.1)
 
-pub returns-else-not-is-wall : goal.returns-else-not-is-wall
-returns-else-not-is-wall g c =
+pub returns-else-not-is_wall : goal.returns-else-not-is_wall
+returns-else-not-is_wall g c =
     let wall = wall_at (g.R.Rule.parts c.args.rule.now) c.args.text.now in
     let here : wall c.loop-at.at ≡ true = search rules in
     record { value = sym (greatest_here wall c.loop-at.at here) ∙ c.loop-at.invariant.1; wall = here; within = omega arith }

@@ -10,8 +10,8 @@ loop-to-preserved g c =
     let none : wall c.loop-to.to ≡ false = cc in
     (cc, omega arith, omega arith, least_up wall (length text) c.loop-to.to (omega arith) none ∙ c.loop-to.invariant.3)
 
-pub returns-else-not-is-wall-of-both : goal.returns-else-not-is-wall-of-both
-returns-else-not-is-wall-of-both g c =
+pub returns-else-not-is_wall_of_both : goal.returns-else-not-is_wall_of_both
+returns-else-not-is_wall_of_both g c =
     let text = c.args.text.now in
     let wall = both_walls (g.R.Rule.parts c.args.rule.now) text (set text c.args.place c.args.byte) in
     let here : wall c.loop-to.to ≡ true = cc in

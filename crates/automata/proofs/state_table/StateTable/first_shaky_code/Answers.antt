@@ -23,4 +23,4 @@ returns-in-Some c =
     }
 
 pub loop-state-preserved : goal.loop-state-preserved
-loop-state-preserved c = below_more _ _ c.loop-state.invariant (λ lo. c.in-default.ensures)
+loop-state-preserved c = below_more _ _ c.loop-state.invariant (λ lo. c.in_default.ensures)

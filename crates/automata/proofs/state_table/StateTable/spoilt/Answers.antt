@@ -6,7 +6,7 @@ loop-state-init c = (λ t lt lo. absurd (omega arith), λ k h. absurd (c.empty-a
 
 pub loop-state-preserved : goal.loop-state-preserved
 loop-state-preserved c =
-    let e = c.spread-spoilt-all.ensures in (
+    let e = c.spread_spoilt-all.ensures in (
       below_more _ _ (λ t lt lo k p. e.keeps k (c.loop-state.invariant.0 t lt lo k p)) (λ lo k p. e.adds k p),
       λ k h. elim (e.only k h) [
         | inl o ↦ c.loop-state.invariant.1 k o

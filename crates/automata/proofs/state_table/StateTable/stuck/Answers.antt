@@ -34,7 +34,7 @@ returns c =
     record {
       least =
           stuck_least (code_of table) table.states table.classes c.spread-after.result.bits c.empty.result.bits table.low (next_within table) c.empty.ensures e.adds e.only
-          c.closure-set.result.bits f.sound f.complete c.in-default.ensures
-          c.first-quit.result c.first-quit.ensures.least;
-      within = c.first-quit.ensures.within;
+          c.closure-set.result.bits f.sound f.complete c.in_default.ensures
+          c.first_quit.result c.first_quit.ensures.least;
+      within = c.first_quit.ensures.within;
     }

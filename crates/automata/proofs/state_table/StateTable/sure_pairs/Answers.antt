@@ -20,8 +20,8 @@ loop-a-preserved c =
     let few : c.loop-a.a < 128 = omega (arith, table.few) in
     let row = sure_row code S C table.low (next_within table) c.reach-reached.result.bits reached.sound reached.complete
     c.loop-a.a (omega arith) c.after.result.bits after.sound after.complete
-    c.stop-row.result (c.stop-row.ensures.within, c.stop-row.ensures.beyond) in
-    rows_more (Sure code C) C c.loop-a.rows c.loop-a.a c.stop-row.result few row c.loop-a.invariant
+    c.stop_row.result (c.stop_row.ensures.within, c.stop_row.ensures.beyond) in
+    rows_more (Sure code C) C c.loop-a.rows c.loop-a.a c.stop_row.result few row c.loop-a.invariant
 
 pub returns : goal.returns
 returns c =

@@ -25,6 +25,6 @@ returns c =
       least =
           unsteady_least (code_of table) table.states table.classes (holds c.args.sure.now.rows) table.low (next_within table)
           c.reach-reached.result.bits c.spoilt-after.result.bits after.sound reached.sound reached.complete after.complete
-          late late-sound late-complete c.first-shaky-code.result c.first-shaky-code.ensures.least;
-      within = c.first-shaky-code.ensures.within;
+          late late-sound late-complete c.first_shaky_code.result c.first_shaky_code.ensures.least;
+      within = c.first_shaky_code.ensures.within;
     }

@@ -15,15 +15,15 @@ loop-step-preserved g c =
     let step = get_or c.args.steps.now c.loop-step.step-index no_step in
     let e = c.loop-step.invariant.2 in
     let before = plain_of c.loop-step.self c.loop-step.text in
-    let stepped : Faithful run parts c.loop-step.self c.loop-step.text → Stepped run parts before (handed_at before step) step.call c.take-step.result c.take-step.new.self c.take-step.new.text =
-    subst (λ (ρ : g.row.R.Denot). Faithful (g.R.Rule.run ρ) (g.R.Rule.parts ρ) c.loop-step.self c.loop-step.text → Stepped (g.R.Rule.run ρ) (g.R.Rule.parts ρ) before (handed_at before step) step.call c.take-step.result c.take-step.new.self c.take-step.new.text) e c.take-step.ensures.stepped in (
-      omega (arith, c.push-reserved.ensures.len, c.loop-step.invariant.0),
-      omega (arith, c.push-reserved.ensures.capacity, c.loop-step.invariant.1),
-      c.take-step.ensures.rule ∙ e,
-      c.take-step.ensures.long ∙ c.loop-step.invariant.3,
+    let stepped : Faithful run parts c.loop-step.self c.loop-step.text → Stepped run parts before (handed_at before step) step.call c.take_step.result c.take_step.new.self c.take_step.new.text =
+    subst (λ (ρ : g.row.R.Denot). Faithful (g.R.Rule.run ρ) (g.R.Rule.parts ρ) c.loop-step.self c.loop-step.text → Stepped (g.R.Rule.run ρ) (g.R.Rule.parts ρ) before (handed_at before step) step.call c.take_step.result c.take_step.new.self c.take_step.new.text) e c.take_step.ensures.stepped in (
+      omega (arith, c.push_reserved.ensures.len, c.loop-step.invariant.0),
+      omega (arith, c.push_reserved.ensures.capacity, c.loop-step.invariant.1),
+      c.take_step.ensures.rule ∙ e,
+      c.take_step.ensures.long ∙ c.loop-step.invariant.3,
       λ f.
           let so = c.loop-step.invariant.4 f in
-          so_far_more run parts _ steps c.loop-step.self c.take-step.new.self c.loop-step.text c.take-step.new.text i c.take-step.result (vec_items c.loop-step.answers) _ c.loop-step-test.true so (stepped so.faithful) c.push-reserved.ensures.items,
+          so_far_more run parts _ steps c.loop-step.self c.take_step.new.self c.loop-step.text c.take_step.new.text i c.take_step.result (vec_items c.loop-step.answers) _ c.loop-step-test.true so (stepped so.faithful) c.push_reserved.ensures.items,
     )
 
 pub returns : goal.returns

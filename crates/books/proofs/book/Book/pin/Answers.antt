@@ -20,17 +20,17 @@ returns-in-Some g c =
     let bounds = g.met.R.Rule.bounds book.rule in
     let joins = g.met.R.Rule.joins book.rule in
     let pins = kept book.pins in
-    let wall = c.wall-not-above-wall.ensures in
+    let wall = c.wall_not_above-wall.ensures in
     let found = sym c.in-Some.is ∙ c.at.ensures.value in
-    let checked = c.in-ok-check-place.ensures in
-    let there = at_there c.wall-not-above-wall.result (kept book.pins) c.in-Some.pin found in
+    let checked = c.in_ok-check_place.ensures in
+    let there = at_there c.wall_not_above-wall.result (kept book.pins) c.in-Some.pin found in
     let inside = c.in-Some.ensures.inside in
     record {
-      plain = λ f. pinned_again run bounds parts joins text pins f.are_true c.args.place checked.1 c.wall-not-above-wall.result wall.value wall.within wall.wall c.in-Some.pin found;
+      plain = λ f. pinned_again run bounds parts joins text pins f.are_true c.args.place checked.1 c.wall_not_above-wall.result wall.value wall.within wall.wall c.in-Some.pin found;
       follows = λ f.
           record {
             stays_faithful = f;
-            is_plain = left_again run bounds parts joins text pins f.are_true c.args.place checked.1 c.wall-not-above-wall.result wall.value wall.within wall.wall c.in-Some.pin found;
+            is_plain = left_again run bounds parts joins text pins f.are_true c.args.place checked.1 c.wall_not_above-wall.result wall.value wall.within wall.wall c.in-Some.pin found;
           };
       strange = (record { few = inside.0; within = omega (arith, inside.1, checked.0) }, there.0 ∙ wall.value);
       keeps = (sym (cond-true _ _ _ (ap (λ n. is_in n (places_of (kept book.pins))) there.0 ∙ there.1)), refl);
@@ -47,11 +47,11 @@ returns-in-Some-with g c =
     let bounds = g.met.R.Rule.bounds book.rule in
     let joins = g.met.R.Rule.joins book.rule in
     let pins = kept book.pins in
-    let wall = c.wall-not-above-wall.ensures in
-    let w = c.wall-not-above-wall.result in
+    let wall = c.wall_not_above-wall.ensures in
+    let w = c.wall_not_above-wall.result in
     let n = c.run_over_byte.result.number in
-    let none = sym c.in-default.is ∙ c.at.ensures.value in
-    let checked = c.in-ok-check-place.ensures in
+    let none = sym c.in_default.is ∙ c.at.ensures.value in
+    let checked = c.in_ok-check_place.ensures in
     let with_it = c.in-Some-with.ensures in
     let few = with_it.2 (sym none) in
     let within = c.run_over_byte.ensures.within in
@@ -75,10 +75,10 @@ returns-in-None g c =
     let bounds = g.met.R.Rule.bounds book.rule in
     let joins = g.met.R.Rule.joins book.rule in
     let pins = kept book.pins in
-    let wall = c.wall-not-above-wall.ensures in
-    let w = c.wall-not-above-wall.result in
-    let none = sym c.in-default.is ∙ c.at.ensures.value in
-    let checked = c.in-ok-check-place.ensures in
+    let wall = c.wall_not_above-wall.ensures in
+    let w = c.wall_not_above-wall.result in
+    let none = sym c.in_default.is ∙ c.at.ensures.value in
+    let checked = c.in_ok-check_place.ensures in
     let full = c.in-None.ensures.0 in
     record {
       plain = λ f. pins_full run bounds parts joins text pins f.are_true c.args.place checked.1 w wall.value wall.within wall.wall none full;

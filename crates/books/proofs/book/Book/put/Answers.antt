@@ -16,7 +16,7 @@ returns g c =
     let p = c.args.place in
     let v = c.args.byte in
     let told = c.judge-judged.ensures in
-    let checked = c.in-ok-check-place.ensures in
+    let checked = c.in_ok-check_place.ensures in
     let out = ap (λ (z : List ℕ). set z p v) told.restored in
     record {
       answer = ap (λ x. Ok x) told.change ∙ place_taken _ book.pins.size _ p book.pins.size refl checked.0 checked.1;

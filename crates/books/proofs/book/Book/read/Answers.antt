@@ -11,7 +11,7 @@ returns-in-Some g c =
       plain = λ f.
           read_some (g.R.Rule.run book.rule) (g.met.R.Rule.bounds book.rule) (g.R.Rule.parts book.rule) (g.met.R.Rule.joins book.rule) c.args.text.now
           (kept book.pins) c.args.k c.in-Some.pin f.are_true got.value.0 got.value.1;
-      other = λ ne. absurd (ne c.in-ok-check-length.ensures);
+      other = λ ne. absurd (ne c.in_ok-check_length.ensures);
       strange = (record { few = got.inside.0; within = search rules }, got.value.0, got.value.1);
     }
 
@@ -22,6 +22,6 @@ returns-in-None g c =
       plain = λ f.
           read_none (g.R.Rule.run book.rule) (g.met.R.Rule.bounds book.rule) (g.R.Rule.parts book.rule) (g.met.R.Rule.joins book.rule) c.args.text.now
           (kept book.pins) c.args.k c.in-None.ensures.value;
-      other = λ ne. absurd (ne c.in-ok-check-length.ensures);
-      strange = inr (c.in-ok-check-length.ensures, c.in-None.ensures.value, refl);
+      other = λ ne. absurd (ne c.in_ok-check_length.ensures);
+      strange = inr (c.in_ok-check_length.ensures, c.in-None.ensures.value, refl);
     }

@@ -16,7 +16,7 @@ returns-in-Some g c =
     let bounds = g.met.R.Rule.bounds book.rule in
     let joins = g.met.R.Rule.joins book.rule in
     let found = sym c.in-Some.is ∙ c.at.ensures.value in
-    let checked = c.in-ok-check-place.ensures in
+    let checked = c.in_ok-check_place.ensures in
     let there = at_there c.args.place (kept book.pins) c.in-Some.pin found in
     let inside = c.in-Some.ensures.inside in
     record {
@@ -41,7 +41,7 @@ returns-in-None g c =
     let bounds = g.met.R.Rule.bounds book.rule in
     let joins = g.met.R.Rule.joins book.rule in
     let found = sym c.in-None.is ∙ c.at.ensures.value in
-    let checked = c.in-ok-check-place.ensures in
+    let checked = c.in_ok-check_place.ensures in
     record {
       plain = λ f. not_pinned run bounds parts joins text (kept book.pins) f.are_true c.args.place checked.1 found;
       follows = λ f.

@@ -9,12 +9,12 @@ returns-in-Err g c =
     let rule = c.args.rule in
     let refused = c.in-Err.ensures.pins in
     record {
-      answered-as-the-plain-book = tt;
-      text-of-the-plain-book = refl;
-      pins-are-true = tt;
-      outside-the-window-nothing-moves = each_put_upsets (g.R.Rule.run rule) (g.met.R.Rule.bounds rule) (g.R.Rule.parts rule) (g.met.R.Rule.joins rule) (opened c.args.text.now) c.args.steps.now;
-      find-gives-what-look-gives = tt;
-      not-begun = (refused.0, refused.1);
+      answered_as_the_plain_book = tt;
+      text_of_the_plain_book = refl;
+      pins_are_true = tt;
+      outside_the_window_nothing_moves = each_put_upsets (g.R.Rule.run rule) (g.met.R.Rule.bounds rule) (g.R.Rule.parts rule) (g.met.R.Rule.joins rule) (opened c.args.text.now) c.args.steps.now;
+      find_gives_what_look_gives = tt;
+      not_begun = (refused.0, refused.1);
     }
 
 pub returns-in-Ok : goal.returns-in-Ok
@@ -25,18 +25,18 @@ returns-in-Ok g c =
     let text = c.args.text.now in
     let steps = c.args.steps.now in
     let book = c.open.new.self in
-    let last = c.carry-out.new.self in
-    let fresh = c.in-default.ensures in
+    let last = c.carry_out.new.self in
+    let fresh = c.in_default.ensures in
     let same = fresh.rule ∙ c.new-book.ensures.rule in
-    let carried = replayed run parts rule book last text c.carry-out.new.text steps (vec_items c.in-Ok.answers) same fresh.pins.1 fresh.pins.2 c.in-Ok.ensures.told in
-    let end = end_true (run rule) (parts rule) (opened text) last c.carry-out.new.text steps (vec_items c.in-Ok.answers) carried in
+    let carried = replayed run parts rule book last text c.carry_out.new.text steps (vec_items c.in-Ok.answers) same fresh.pins.1 fresh.pins.2 c.in-Ok.ensures.told in
+    let end = end_true (run rule) (parts rule) (opened text) last c.carry_out.new.text steps (vec_items c.in-Ok.answers) carried in
     record {
-      answered-as-the-plain-book = carried.answers_are;
-      text-of-the-plain-book = end.0;
-      pins-are-true = end.1;
-      outside-the-window-nothing-moves = each_put_upsets (run rule) (g.met.R.Rule.bounds rule) (parts rule) (g.met.R.Rule.joins rule) (opened text) steps;
-      find-gives-what-look-gives = find_as_look (run rule) (final (run rule) (parts rule) (opened text) steps) (short_end (run rule) (parts rule) last c.carry-out.new.text _ carried.follows);
-      not-begun = fresh.pins.0;
+      answered_as_the_plain_book = carried.answers_are;
+      text_of_the_plain_book = end.0;
+      pins_are_true = end.1;
+      outside_the_window_nothing_moves = each_put_upsets (run rule) (g.met.R.Rule.bounds rule) (parts rule) (g.met.R.Rule.joins rule) (opened text) steps;
+      find_gives_what_look_gives = find_as_look (run rule) (final (run rule) (parts rule) (opened text) steps) (short_end (run rule) (parts rule) last c.carry_out.new.text _ carried.follows);
+      not_begun = fresh.pins.0;
     }
 
 pub returns : goal.returns
@@ -46,13 +46,13 @@ returns g c =
     let parts = g.R.Rule.parts in
     let text = c.args.text.now in
     let book = c.open.new.self in
-    let fresh = c.in-default.ensures in
+    let fresh = c.in_default.ensures in
     let faithful = (opened_follows (run book.rule) (parts book.rule) book text fresh.pins.1 fresh.pins.2).stays_faithful in
     record {
-      answered-as-the-plain-book = tt;
-      text-of-the-plain-book = c.in-Err-carry-out.ensures.told faithful;
-      pins-are-true = tt;
-      outside-the-window-nothing-moves = each_put_upsets (run rule) (g.met.R.Rule.bounds rule) (parts rule) (g.met.R.Rule.joins rule) (opened text) c.args.steps.now;
-      find-gives-what-look-gives = tt;
-      not-begun = fresh.pins.0;
+      answered_as_the_plain_book = tt;
+      text_of_the_plain_book = c.in-Err-carry_out.ensures.told faithful;
+      pins_are_true = tt;
+      outside_the_window_nothing_moves = each_put_upsets (run rule) (g.met.R.Rule.bounds rule) (parts rule) (g.met.R.Rule.joins rule) (opened text) c.args.steps.now;
+      find_gives_what_look_gives = tt;
+      not_begun = fresh.pins.0;
     }

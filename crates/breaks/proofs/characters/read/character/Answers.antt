@@ -10,6 +10,6 @@ returns c =
     let b = bytes_of c.args.table.now in
     let text = c.args.text.now in
     let place = c.args.place in
-    let is = ap first_of c.character-at.ensures.reads in
-    let same : c.character-at.result ≡ first_of (characters b (drop place text)) = cc in
-    answers text place (first_of (characters b (drop place text))) (omega arith) (omega arith) c.character-at.result same
+    let is = ap first_of c.character_at.ensures.reads in
+    let same : c.character_at.result ≡ first_of (characters b (drop place text)) = cc in
+    answers text place (first_of (characters b (drop place text))) (omega arith) (omega arith) c.character_at.result same

@@ -38,7 +38,7 @@ returns-then-place-text c =
       some = omega arith;
       within = omega arith;
       low = omega arith;
-      reads = read_short (leads b) (one_class b) (two_class b) text p c.if-place-text.true c.in-default.ensures;
+      reads = read_short (leads b) (one_class b) (two_class b) text p c.if-place-text.true c.in_default.ensures;
     }
 
 pub returns : goal.returns
@@ -49,12 +49,12 @@ returns c =
     let p = c.args.place in
     let inside = c.requires in
     let more : p + 1 < length text = let ne = c.if-place-text.false in omega arith in
-    let is = c.two-byte-class.ensures in
+    let is = c.two_byte_class.ensures in
     record {
       some = omega arith;
       within = omega arith;
-      low = subst (λ (n : ℕ). n < classes b) (sym is) (two_low b (table_passes t) (get_or text p 0) (get_or text (p + 1) 0) c.in-default.ensures);
+      low = subst (λ (n : ℕ). n < classes b) (sym is) (two_low b (table_passes t) (get_or text p 0) (get_or text (p + 1) 0) c.in_default.ensures);
       reads =
-          read_two (leads b) (one_class b) (two_class b) text p more c.in-default.ensures
+          read_two (leads b) (one_class b) (two_class b) text p more c.in_default.ensures
           ∙ ap (λ (n : ℕ). char 2 n ∷ chars (leads b) (one_class b) (two_class b) (drop (p + 2) text)) (sym is);
     }

@@ -3,6 +3,6 @@ use Rattle.breaks.proofs.characters.read.character_start.Goals as goal
 
 pub returns : goal.returns
 returns c =
-    let low = c.stretch-start-at.ensures.within in
-    let parity = ap (λ (n : ℕ). n % 2) c.stretch-start-at.ensures.value in
+    let low = c.stretch_start-at.ensures.within in
+    let parity = ap (λ (n : ℕ). n % 2) c.stretch_start-at.ensures.value in
     record { value = omega arith; within = omega arith }

@@ -7,11 +7,11 @@ use Rattle.breaks.proofs.characters.read.stretch_start.Goals as goal
 pub loop-at-preserved : goal.loop-at-preserved
 loop-at-preserved c =
     let lead = leads (bytes_of c.args.table.now) in
-    let more = leads_more lead c.args.text.now c.loop-at.at c.loop-at-test.true (sym c.is-first-byte.ensures ∙ c.if-is-first-byte.true) in
+    let more = leads_more lead c.args.text.now c.loop-at.at c.loop-at-test.true (sym c.is_first_byte.ensures ∙ c.if-is_first_byte.true) in
     (omega arith, omega arith)
 
-pub returns-else-is-first-byte : goal.returns-else-is-first-byte
-returns-else-is-first-byte c =
+pub returns-else-is_first_byte : goal.returns-else-is_first_byte
+returns-else-is_first_byte c =
     let lead = leads (bytes_of c.args.table.now) in
-    let none = leads_none lead c.args.text.now c.loop-at.at c.loop-at-test.true (sym c.is-first-byte.ensures ∙ c.if-is-first-byte.false) in
+    let none = leads_none lead c.args.text.now c.loop-at.at c.loop-at-test.true (sym c.is_first_byte.ensures ∙ c.if-is_first_byte.false) in
     record { value = omega arith; within = omega arith }

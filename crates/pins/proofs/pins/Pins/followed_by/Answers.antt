@@ -3,11 +3,11 @@ use Rattle.std.proofs.lemmas.List.{take_more_set, length-take-le}
 use Rattle.pins.proofs.Rising.{true_T}
 use Rattle.pins.proofs.pins.Pins.followed_by.Goals as goal
 
-pub invariant-of-result : goal.invariant-of-result
-invariant-of-result c =
+pub invariant_of-result : goal.invariant_of-result
+invariant_of-result c =
     let p = c.args.self in
     let l = length-take-le p.count p.entries (search rules) in
-    (p.short, (omega (arith, c.requires.0), (true_T _ (rw (take_more_set p.entries p.count c.args.pin (search rules)) c.requires.1), tt)))
+    record { short = p.short; few = omega (arith, c.requires.0); ordered = true_T _ (rw (take_more_set p.entries p.count c.args.pin (search rules)) c.requires.1) }
 
 pub returns : goal.returns
 returns c =

@@ -4,7 +4,7 @@ use Rattle.pins.specs.Order.{insert, nought}
 use Rattle.pins.specs.Kept.{kept}
 use Rattle.pins.proofs.Rising.{there, nowhere, put_again, put_new, rising_insert, T_true, true_T}
 use Rattle.pins.proofs.pins.Pins.with.Goals as goal
-use Rattle.pins.proofs.pins.Pins.with.Goals.{else-k-self-via-then-k-self+else-self-k, else-k-self-via-else-k-self, After-put-in-entries}
+use Rattle.pins.proofs.pins.Pins.with.Goals.{else-k-self-via-then-k-self+else-self-k, else-k-self-via-else-k-self, After-put_in-entries}
 
 pub returns-then-self-k : goal.returns-then-self-k
 returns-then-self-k c =
@@ -25,19 +25,19 @@ returns-then-self-ge-MOST c =
           (λ h e. elim c.else-k-self.branch [ else-k-self-via-then-k-self+else-self-k w ↦ w.if-self-k.false e | else-k-self-via-else-k-self w ↦ omega (arith, w.if-k-self.false) ])).1,
     )
 
-now-is : (c : goal.After-put-in-entries) → take (c.args.self.count + 1) c.put-in-entries.result ≡ insert c.args.pin (kept c.args.self)
+now-is : (c : goal.After-put_in-entries) → take (c.args.self.count + 1) c.put_in-entries.result ≡ insert c.args.pin (kept c.args.self)
 now-is c =
     let p = c.args.self in
-    put_new p.entries p.count (search rules) c.args.pin c.rank-k.result (search rules) c.put-in-entries.result
+    put_new p.entries p.count (search rules) c.args.pin c.rank-k.result (search rules) c.put_in-entries.result
     (λ h e. elim c.else-k-self.branch [ else-k-self-via-then-k-self+else-self-k w ↦ w.if-self-k.false e | else-k-self-via-else-k-self w ↦ omega (arith, w.if-k-self.false) ])
-    c.put-in-entries.ensures
+    c.put_in-entries.ensures
 
-pub invariant-of-result : goal.invariant-of-result
-invariant-of-result c =
+pub invariant_of-result : goal.invariant_of-result
+invariant_of-result c =
     let ordered = rising_insert c.args.self.size c.args.pin (kept c.args.self) c.requires.0 c.requires.1 (T_true _ c.args.self.ordered) in
-    (c.args.self.short, (omega (arith, c.if-self-ge-MOST.false), (true_T _ (rw (now-is c) ordered), tt)))
+    record { short = c.args.self.short; few = omega (arith, c.if-self-ge-MOST.false); ordered = true_T _ (rw (now-is c) ordered) }
 
 pub returns : goal.returns
 returns c =
     let l = length-take c.args.self.count c.args.self.entries in
-    (now-is (goal.at.returns c).After-put-in-entries, refl, λ _. omega (arith, l, c.if-self-ge-MOST.false))
+    (now-is (goal.at.returns c).After-put_in-entries, refl, λ _. omega (arith, l, c.if-self-ge-MOST.false))

@@ -15,29 +15,29 @@ here b at v e h =
 pub loop-entry-preserved : goal.loop-entry-preserved
 loop-entry-preserved c =
     let b = c.args.bytes.now in
-    let at = c.class-table-place-at.ensures in
-    let n = part_size b c.class-table-place-at.result 256 at.bound in
+    let at = c.class_table_place-at.ensures in
+    let n = part_size b c.class_table_place-at.result 256 at.bound in
     let counted = c.loop-entry.invariant.0 in (
       omega arith,
       below_more _ _ c.loop-entry.invariant.1
-          (sym (here b c.class-table-place-at.result c.loop-entry.entry-index at.value at.bound) ∙ sym c.entry-is-sound.ensures ∙ c.if-not-entry-is-sound.false),
+          (sym (here b c.class_table_place-at.result c.loop-entry.entry-index at.value at.bound) ∙ sym c.entry_is_sound.ensures ∙ c.if-not-entry_is_sound.false),
     )
 
-pub returns-then-not-entry-is-sound : goal.returns-then-not-entry-is-sound
-returns-then-not-entry-is-sound c =
+pub returns-then-not-entry_is_sound : goal.returns-then-not-entry_is_sound
+returns-then-not-entry_is_sound c =
     let b = c.args.bytes.now in
-    let at = c.class-table-place-at.ensures in
-    let n = part_size b c.class-table-place-at.result 256 at.bound in
+    let at = c.class_table_place-at.ensures in
+    let n = part_size b c.class_table_place-at.result 256 at.bound in
     let v = c.loop-entry.entry-index in
     let e = at.value in
     let counted = c.loop-entry.invariant.0 in
     each_fails (λ v. (entry_sound b (entry b v), ClassWrong (class_table b + v))) 0 256 v (omega arith) (omega arith) (λ j lo hi. c.loop-entry.invariant.1 j hi)
-    (sym (here b c.class-table-place-at.result v at.value at.bound) ∙ sym c.entry-is-sound.ensures ∙ c.if-not-entry-is-sound.true)
+    (sym (here b c.class_table_place-at.result v at.value at.bound) ∙ sym c.entry_is_sound.ensures ∙ c.if-not-entry_is_sound.true)
     ∙ ap (λ (p : ℕ). Some (ClassWrong p)) (omega arith)
 
 pub returns : goal.returns
 returns c =
     let b = c.args.bytes.now in
-    let at = c.class-table-place-at.ensures in
-    let n = part_size b c.class-table-place-at.result 256 at.bound in
+    let at = c.class_table_place-at.ensures in
+    let n = part_size b c.class_table_place-at.result 256 at.bound in
     each_passes (λ v. (entry_sound b (entry b v), ClassWrong (class_table b + v))) 0 256 (λ j lo hi. c.loop-entry.invariant.1 j (omega arith))

@@ -18,11 +18,11 @@ below b e lo hi two =
 pub returns-then-k-eq0 : goal.returns-then-k-eq0
 returns-then-k-eq0 c =
     let f = c.ranges.entry in
-    c.even-is-sound.ensures ∙ sym (cond-true _ _ _ (eq-eqb _ _ c.if-k-eq0.true))
-    ∙ below c.args.bytes.now c.args.entry c.if-entry-lt128.false (omega arith) (sym c.is-two-byte.ensures ∙ c.if-not-is-two-byte.false)
+    c.even_is_sound.ensures ∙ sym (cond-true _ _ _ (eq-eqb _ _ c.if-k-eq0.true))
+    ∙ below c.args.bytes.now c.args.entry c.if-entry-lt128.false (omega arith) (sym c.is_two_byte.ensures ∙ c.if-not-is_two_byte.false)
 
 pub returns-else-k-eq0 : goal.returns-else-k-eq0
 returns-else-k-eq0 c =
     let f = c.ranges.entry in
-    c.odd-is-sound.ensures ∙ sym (cond-false _ _ _ (ne_eqb _ _ c.if-k-eq0.false))
-    ∙ below c.args.bytes.now c.args.entry c.if-entry-lt128.false (omega arith) (sym c.is-two-byte.ensures ∙ c.if-not-is-two-byte.false)
+    c.odd_is_sound.ensures ∙ sym (cond-false _ _ _ (ne_eqb _ _ c.if-k-eq0.false))
+    ∙ below c.args.bytes.now c.args.entry c.if-entry-lt128.false (omega arith) (sym c.is_two_byte.ensures ∙ c.if-not-is_two_byte.false)

@@ -14,11 +14,11 @@ row_same b at start e h =
     ap (every (λ y. is_class b (byte (take (at + 256 - at) (drop at b)) y))) (part_size b at 256 h)
     ∙ ap (λ (l : List ℕ). every (λ y. is_class b (byte l y)) 256) (part_is b at 256 h ∙ ap (λ (s : ℕ). take 256 (drop s b)) e)
 
-pub row-place-requires : goal.row-place-requires
-row-place-requires c =
+pub row_place-requires : goal.row_place-requires
+row_place-requires c =
     let b = c.args.bytes.now in
-    let in_table = leb-true _ _ (sym c.part-fits.ensures ∙ c.if-not-part-fits.false) in
-    let at = c.auxiliary-place.ensures.value in
+    let in_table = leb-true _ _ (sym c.part_fits.ensures ∙ c.if-not-part_fits.false) in
+    let at = c.auxiliary_place.ensures.value in
     let whole = (head b c.requires.0).size_high in
     let last = c.requires.1.1.1 in
     record { sound = (c.requires.0, c.requires.1.0); inside = (last, omega arith) }
@@ -28,7 +28,7 @@ returns-in-Some c =
     let b = c.args.bytes.now in
     let k = c.args.k in
     let e = c.in-Some.ensures in
-    let first : fits b (pos (auxiliary b + k)) 2 ≡ true = ap (λ (n : ℕ). fits b (pos (n + k)) 2) (sym c.auxiliary-place.ensures.value) ∙ sym c.part-fits.ensures ∙ c.if-not-part-fits.false in
-    c.row-is-sound.ensures ∙ row_same b c.in-Some.at (nat_abs (row_start b k)) e.1 e.2
+    let first : fits b (pos (auxiliary b + k)) 2 ≡ true = ap (λ (n : ℕ). fits b (pos (n + k)) 2) (sym c.auxiliary_place.ensures.value) ∙ sym c.part_fits.ensures ∙ c.if-not-part_fits.false in
+    c.row_is_sound.ensures ∙ row_same b c.in-Some.at (nat_abs (row_start b k)) e.1 e.2
     ∙ ap (λ (t : Bool). t && every (λ y. is_class b (even_class b k y)) 256) (sym e.0)
     ∙ ap (λ (t : Bool). t && (fits b (row_start b k) 256 && every (λ y. is_class b (even_class b k y)) 256)) (sym first)

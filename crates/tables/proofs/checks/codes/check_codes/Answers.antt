@@ -23,27 +23,27 @@ told b d s k row e q = ap (λ (n : ℕ). code_sound n (get_or row k 0)) e ∙ ap
 pub loop-k-preserved : goal.loop-k-preserved
 loop-k-preserved c =
     below_more _ _ c.loop-k.invariant
-    (sym (told c.args.bytes.now c.args.direction c.state-count-states.result c.loop-k.k c.code-rows-codes.result.now c.state-count-states.ensures.value c.code-rows-codes.ensures.value)
-    ∙ sym c.code-is-sound.ensures ∙ c.if-not-code-is-sound.false)
+    (sym (told c.args.bytes.now c.args.direction c.state_count-states.result c.loop-k.k c.code_rows-codes.result.now c.state_count-states.ensures.value c.code_rows-codes.ensures.value)
+    ∙ sym c.code_is_sound.ensures ∙ c.if-not-code_is_sound.false)
 
-pub returns-then-not-code-is-sound : goal.returns-then-not-code-is-sound
-returns-then-not-code-is-sound c =
+pub returns-then-not-code_is_sound : goal.returns-then-not-code_is_sound
+returns-then-not-code_is_sound c =
     let b = c.args.bytes.now in
     let d = c.args.direction in
     let k = c.loop-k.k in
-    let n = c.code-rows-codes.ensures.size in
+    let n = c.code_rows-codes.ensures.size in
     let lt : k < code_count b d = omega arith in
-    let place : code_place b d k ≡ c.first-code-place-at.result + k = let at = c.first-code-place-at.ensures.value in omega arith in
+    let place : code_place b d k ≡ c.first_code_place-at.result + k = let at = c.first_code_place-at.ensures.value in omega arith in
     each_fails (code-check b d) 0 (code_count b d) k (omega arith) (omega arith)
     (λ j lo hi. ap (code_sound (states b d)) (sym (at_place b d j (omega arith))) ∙ c.loop-k.invariant j hi)
     (ap (code_sound (states b d)) (sym (at_place b d k lt))
-    ∙ sym (told b d c.state-count-states.result k c.code-rows-codes.result.now c.state-count-states.ensures.value c.code-rows-codes.ensures.value)
-    ∙ sym c.code-is-sound.ensures ∙ c.if-not-code-is-sound.true)
+    ∙ sym (told b d c.state_count-states.result k c.code_rows-codes.result.now c.state_count-states.ensures.value c.code_rows-codes.ensures.value)
+    ∙ sym c.code_is_sound.ensures ∙ c.if-not-code_is_sound.true)
     ∙ ap (λ (p : ℕ). Some (CodeWrong d p)) place
 
 pub returns : goal.returns
 returns c =
     let b = c.args.bytes.now in
     let d = c.args.direction in
-    let n = c.code-rows-codes.ensures.size in
+    let n = c.code_rows-codes.ensures.size in
     each_passes (code-check b d) 0 (code_count b d) (λ j lo hi. ap (code_sound (states b d)) (sym (at_place b d j (omega arith))) ∙ c.loop-k.invariant j (omega arith))

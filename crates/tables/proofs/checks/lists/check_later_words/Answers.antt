@@ -11,22 +11,22 @@ word-check b d k = list_check b d k (later_word b d k)
 
 pub loop-k-preserved : goal.loop-k-preserved
 loop-k-preserved c =
-    below_more _ _ c.loop-k.invariant (λ _. sym c.later-word-fits.ensures ∙ c.if-not-later-word-fits.false)
+    below_more _ _ c.loop-k.invariant (λ _. sym c.later_word_fits.ensures ∙ c.if-not-later_word_fits.false)
 
-pub returns-then-not-later-word-fits : goal.returns-then-not-later-word-fits
-returns-then-not-later-word-fits c =
+pub returns-then-not-later_word_fits : goal.returns-then-not-later_word_fits
+returns-then-not-later_word_fits c =
     let b = c.args.bytes.now in
     let d = c.args.direction in
-    let s = c.state-count-k-end.ensures.value in
+    let s = c.state_count-k-end.ensures.value in
     let in_list : c.loop-k.k < 3 + (states b d - 3) = omega arith in
     each_fails (word-check b d) 3 (states b d - 3) c.loop-k.k c.loop-k.auto.k in_list
-    (λ j lo hi. c.loop-k.invariant j hi lo) (sym c.later-word-fits.ensures ∙ c.if-not-later-word-fits.true)
-    ∙ ap (λ (e : Refusal). Some e) (sym c.wrong-at.ensures)
+    (λ j lo hi. c.loop-k.invariant j hi lo) (sym c.later_word_fits.ensures ∙ c.if-not-later_word_fits.true)
+    ∙ ap (λ (e : Refusal). Some e) (sym c.wrong_at.ensures)
 
 pub returns : goal.returns
 returns c =
     let b = c.args.bytes.now in
     let d = c.args.direction in
-    let s = c.state-count-k-end.ensures.value in
+    let s = c.state_count-k-end.ensures.value in
     let least = c.requires.inside.0 in
     each_passes (word-check b d) 3 (states b d - 3) (λ j lo hi. c.loop-k.invariant j (omega arith) lo)

@@ -6,7 +6,7 @@ pub returns : goal.returns
 returns c =
     let b = c.args.bytes.now in
     let d = c.args.direction in
-    let at = c.first-code-place.ensures.value in
-    let n = c.code-total.ensures.value in
-    let end : c.first-code-place.result + c.code-total.result ≡ code_place b d (code_count b d) = omega arith in
+    let at = c.first_code_place.ensures.value in
+    let n = c.code_total.ensures.value in
+    let end : c.first_code_place.result + c.code_total.result ≡ code_place b d (code_count b d) = omega arith in
     ap (λ (m : ℕ). leb m c.magnitude.result) end ∙ ap (leb (code_place b d (code_count b d))) c.magnitude.ensures.value

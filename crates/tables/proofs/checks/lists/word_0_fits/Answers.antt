@@ -5,5 +5,5 @@ use Rattle.tables.proofs.checks.lists.word_0_fits.Goals as goal
 
 pub returns : goal.returns
 returns c =
-    let at : c.table-place.result ≡ state_table c.args.bytes.now c.args.direction + 0 = let v = c.table-place.ensures.value in omega arith in
-    c.word-is-within.ensures ∙ ap (λ (n : ℕ). within (word c.args.bytes.now n) 0 0) at
+    let at : c.table_place.result ≡ state_table c.args.bytes.now c.args.direction + 0 = let v = c.table_place.ensures.value in omega arith in
+    c.word_is_within.ensures ∙ ap (λ (n : ℕ). within (word c.args.bytes.now n) 0 0) at

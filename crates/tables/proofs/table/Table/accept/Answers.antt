@@ -6,8 +6,8 @@ use Rattle.tables.proofs.table.Table.accept.Goals as goal
 judged : (c : goal.In-Ok) → Judged (vec_items c.args.bytes) c.in-Ok.field-0
 judged c = subst (λ (b : List ℕ). Judged b c.in-Ok.field-0) c.deref.ensures.value c.in-Ok.ensures
 
-pub invariant-of-result : goal.invariant-of-result
-invariant-of-result c =
+pub invariant_of-result : goal.invariant_of-result
+invariant_of-result c =
     let j = judged c in
     let s = j.sure_bits in
     let l = j.is_laid in (

@@ -10,8 +10,8 @@ use Rattle.tables.proofs.table.Table.backup.Goals as goal
 long : (t : Table) (l : List ℕ) → l ≡ bytes_of t → 272 ≤ length l
 long t l e = let n = ap length e in let h = (head (bytes_of t) (header_passes (bytes_of t) (table_passes t))).long in omega arith
 
-pub word-is-whole-requires : goal.word-is-whole-requires
-word-is-whole-requires c = let h = long c.args.self.now _ c.as-slice-bytes.ensures.value in omega arith
+pub word_is_whole-requires : goal.word_is_whole-requires
+word_is_whole-requires c = let h = long c.args.self.now _ c.as_slice-bytes.ensures.value in omega arith
 
 pub magnitude-requires : goal.magnitude-requires
-magnitude-requires c = let h = long c.args.self.now _ c.as-slice-bytes.ensures.value in omega arith
+magnitude-requires c = let h = long c.args.self.now _ c.as_slice-bytes.ensures.value in omega arith

@@ -9,10 +9,10 @@ use Rattle.tables.proofs.Tabled.{header_passes}
 use Rattle.tables.proofs.Steadies.{by_test, by_bits}
 use Rattle.tables.proofs.table.Table.check_steady.Goals as goal
 
-pub first-code-place-at-requires : goal.first-code-place-at-requires
-first-code-place-at-requires c =
+pub first_code_place-at-requires : goal.first_code_place-at-requires
+first_code_place-at-requires c =
     let b = bytes_of c.args.self.now in
-    subst (λ (l : List ℕ). Passes (header_checks l)) (sym c.as-slice.ensures.value) (header_passes b (table_passes c.args.self.now))
+    subst (λ (l : List ℕ). Passes (header_checks l)) (sym c.as_slice.ensures.value) (header_passes b (table_passes c.args.self.now))
 
 pub returns-in-Some : goal.returns-in-Some
 returns-in-Some c =
@@ -23,8 +23,8 @@ returns-in-Some c =
     let classes_are : m.classes ≡ classes b = search rules in
     let k = c.in-Some.k in
     let l = c.in-Some.ensures.least in
-    let place : c.first-code-place-at.result + k ≡ code_place b Backward k =
-    let at = c.first-code-place-at.ensures.value ∙ ap (λ (l : List ℕ). code_place l Backward 0) c.as-slice.ensures.value in
+    let place : c.first_code_place-at.result + k ≡ code_place b Backward k =
+    let at = c.first_code_place-at.ensures.value ∙ ap (λ (l : List ℕ). code_place l Backward 0) c.as_slice.ensures.value in
     omega arith in (
       k,
       λ sure tells. (

@@ -24,14 +24,14 @@ module _ (t : Table) (s c : ℕ) (lo : 1 ≤ s) (hi : s < states (bytes_of t) Fo
   fits : t.layout.code_start + (s - 1) * t.layout.class_total + c < 18446744073709551616
   fits = let h = place_in in let e = table_length t in let f = t.bytes.small in omega arith
 
-pub overflow-mul-state : goal.overflow-mul-state
-overflow-mul-state c = let h = fits c.args.self.now c.args.state c.args.class c.requires.0 c.requires.1.0 c.requires.1.1 in omega arith
+pub overflow_mul-state : goal.overflow_mul-state
+overflow_mul-state c = let h = fits c.args.self.now c.args.state c.args.class c.requires.0 c.requires.1.0 c.requires.1.1 in omega arith
 
-pub overflow-add-self : goal.overflow-add-self
-overflow-add-self c = let h = fits c.args.self.now c.args.state c.args.class c.requires.0 c.requires.1.0 c.requires.1.1 in omega arith
+pub overflow_add-self : goal.overflow_add-self
+overflow_add-self c = let h = fits c.args.self.now c.args.state c.args.class c.requires.0 c.requires.1.0 c.requires.1.1 in omega arith
 
-pub overflow-add-self-2 : goal.overflow-add-self-2
-overflow-add-self-2 c = let h = fits c.args.self.now c.args.state c.args.class c.requires.0 c.requires.1.0 c.requires.1.1 in omega arith
+pub overflow_add-self-2 : goal.overflow_add-self-2
+overflow_add-self-2 c = let h = fits c.args.self.now c.args.state c.args.class c.requires.0 c.requires.1.0 c.requires.1.1 in omega arith
 
 pub index-requires : goal.index-requires
 index-requires c =

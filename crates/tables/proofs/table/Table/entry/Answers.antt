@@ -18,8 +18,8 @@ module _ (t : Table) (x : ℕ) (lt : x < 256) where
   fits : t.layout.class_place + x < 18446744073709551616
   fits = let h = place_in in let e = table_length t in let f = t.bytes.small in omega arith
 
-pub overflow-add-self : goal.overflow-add-self
-overflow-add-self c = let f = c.ranges.byte in let h = fits c.args.self.now c.args.byte (omega arith) in omega arith
+pub overflow_add-self : goal.overflow_add-self
+overflow_add-self c = let f = c.ranges.byte in let h = fits c.args.self.now c.args.byte (omega arith) in omega arith
 
 pub index-requires : goal.index-requires
 index-requires c =

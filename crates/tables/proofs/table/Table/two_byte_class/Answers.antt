@@ -38,13 +38,13 @@ module _ (b s : List ℕ) (x e : ℕ) (p : Passes (checks b)) (same : s ≡ b) (
       ap (λ (l : List ℕ). nat_abs (cond (even (256 - e)) (even_class l (256 - e) y) (odd_class l (256 - e)))) same
       ∙ ap (λ (k : ℕ). nat_abs (cond (even k) (even_class b k y) (odd_class b k))) (sym k-is)
 
-pub even-class-of-requires : goal.even-class-of-requires
-even-class-of-requires c =
+pub even_class_of-requires : goal.even_class_of-requires
+even_class_of-requires c =
     let b = bytes_of c.args.self.now in
-    let s = c.as-slice-bytes.result.now in
+    let s = c.as_slice-bytes.result.now in
     let e = c.entry.result in
     let p = table_passes c.args.self.now in
-    let v = c.as-slice-bytes.ensures.value in
+    let v = c.as_slice-bytes.ensures.value in
     let small : e < 256 = let o = c.entry.type-inv in omega arith in
     record {
       sound = (
@@ -57,13 +57,13 @@ even-class-of-requires c =
       entry = entry_in b s c.args.first e p v c.requires c.entry.ensures small;
     }
 
-pub odd-class-of-requires : goal.odd-class-of-requires
-odd-class-of-requires c =
+pub odd_class_of-requires : goal.odd_class_of-requires
+odd_class_of-requires c =
     let b = bytes_of c.args.self.now in
-    let s = c.as-slice-bytes.result.now in
+    let s = c.as_slice-bytes.result.now in
     let e = c.entry.result in
     let p = table_passes c.args.self.now in
-    let v = c.as-slice-bytes.ensures.value in
+    let v = c.as_slice-bytes.ensures.value in
     let small : e < 256 = let o = c.entry.type-inv in omega arith in
     record {
       sound = (
@@ -79,19 +79,19 @@ odd-class-of-requires c =
 pub returns-then-k-eq0 : goal.returns-then-k-eq0
 returns-then-k-eq0 c =
     let b = bytes_of c.args.self.now in
-    let s = c.as-slice-bytes.result.now in
+    let s = c.as_slice-bytes.result.now in
     let e = c.entry.result in
     let small : e < 256 = let o = c.entry.type-inv in omega arith in
     let chosen = ap nat_abs (cond-true (even (256 - e)) (even_class s (256 - e) c.args.second) (odd_class s (256 - e)) (eq-eqb _ _ c.if-k-eq0.true)) in
-    let is = class-is b s c.args.first e (table_passes c.args.self.now) c.as-slice-bytes.ensures.value c.requires c.entry.ensures small c.args.second in
-    let told = c.even-class-of.ensures in
+    let is = class-is b s c.args.first e (table_passes c.args.self.now) c.as_slice-bytes.ensures.value c.requires c.entry.ensures small c.args.second in
+    let told = c.even_class_of.ensures in
     omega arith
 
 pub returns-else-k-eq0 : goal.returns-else-k-eq0
 returns-else-k-eq0 c =
     let b = bytes_of c.args.self.now in
-    let s = c.as-slice-bytes.result.now in
+    let s = c.as_slice-bytes.result.now in
     let e = c.entry.result in
     let small : e < 256 = let o = c.entry.type-inv in omega arith in
-    c.odd-class-of.ensures ∙ ap nat_abs (sym (cond-false (even (256 - e)) _ _ (ne_eqb _ _ c.if-k-eq0.false)))
-    ∙ class-is b s c.args.first e (table_passes c.args.self.now) c.as-slice-bytes.ensures.value c.requires c.entry.ensures small c.args.second
+    c.odd_class_of.ensures ∙ ap nat_abs (sym (cond-false (even (256 - e)) _ _ (ne_eqb _ _ c.if-k-eq0.false)))
+    ∙ class-is b s c.args.first e (table_passes c.args.self.now) c.as_slice-bytes.ensures.value c.requires c.entry.ensures small c.args.second

@@ -12,10 +12,10 @@ pub returns : goal.returns
 returns c =
     let b = c.args.bytes.now in
     let C = classes b in
-    let e = c.in-ok-judgement.ensures in
+    let e = c.in_ok-judgement.ensures in
     let s = e.sure_bits in
     let laid = e.is_laid in
-    let rows = c.in-ok-judgement.judgement.sure.rows in (
+    let rows = c.in_ok-judgement.judgement.sure.rows in (
       e.is_sound,
       record {
         states_is = search rules;

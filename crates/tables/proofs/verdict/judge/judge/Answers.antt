@@ -16,27 +16,27 @@ use Rattle.tables.proofs.verdict.judge.judge.Goals as goal
 moved : (P : (ℕ → ℕ → ℕ) → ℕ → Type 0) (f g : ℕ → ℕ → ℕ) (m n : ℕ) → f ≡ g → m ≡ n → P f m → P g n
 moved P f g m n e q p = subst (λ (k : ℕ). P g k) q (subst (λ (h : ℕ → ℕ → ℕ). P h m) e p)
 
-pub first-code-place-at-requires : goal.first-code-place-at-requires
-first-code-place-at-requires c = header_passes c.args.bytes.now c.in-ok-check-table.ensures
+pub first_code_place-at-requires : goal.first_code_place-at-requires
+first_code_place-at-requires c = header_passes c.args.bytes.now c.in_ok-check_table.ensures
 
-pub overflow-add-result : goal.overflow-add-result
-overflow-add-result c =
-    let m = c.machine-of-forward.result in
+pub overflow_add-result : goal.overflow_add-result
+overflow_add-result c =
+    let m = c.machine_of-forward.result in
     let k = c.in-Some.ensures.within in
     let most = mul-le (m.states - 1) m.classes 63 128 (let h = m.high in omega arith) m.few in
-    let at = c.first-code-place-at.ensures.low in
+    let at = c.first_code_place-at.ensures.low in
     omega arith
 
 pub returns-in-Some : goal.returns-in-Some
 returns-in-Some c =
     let b = c.args.bytes.now in
-    let m = c.machine-of-forward.result in
-    let e = c.machine-of-forward.ensures in
+    let m = c.machine_of-forward.result in
+    let e = c.machine_of-forward.ensures in
     let l = c.in-Some.ensures.least in
     let k = c.in-Some.k in
-    let place : c.first-code-place-at.result + k ≡ code_place b Forward k = let at = c.first-code-place-at.ensures.value in omega arith in
+    let place : c.first_code_place-at.result + k ≡ code_place b Forward k = let at = c.first_code_place-at.ensures.value in omega arith in
     inr (
-      c.in-ok-check-table.ensures,
+      c.in_ok-check_table.ensures,
       (
         k,
         record {
@@ -47,20 +47,20 @@ returns-in-Some c =
       ),
     )
 
-pub layout-of-requires : goal.layout-of-requires
-layout-of-requires c = c.in-ok-check-table.ensures
+pub layout_of-requires : goal.layout_of-requires
+layout_of-requires c = c.in_ok-check_table.ensures
 
 pub returns-in-None : goal.returns-in-None
 returns-in-None c =
     let b = c.args.bytes.now in
-    let m = c.machine-of-forward.result in
-    let e = c.machine-of-forward.ensures in
-    let rows = c.sure-pairs.result.rows in
-    let s = c.sure-pairs.ensures in
+    let m = c.machine_of-forward.result in
+    let e = c.machine_of-forward.ensures in
+    let rows = c.sure_pairs.result.rows in
+    let s = c.sure_pairs.ensures in
     let total = e.classes in
     record {
       is_sound = record {
-        passes = c.in-ok-check-table.ensures;
+        passes = c.in_ok-check_table.ensures;
         advances = moved Advances (code_of m) (machine b Forward) m.classes (classes b) e.machine e.classes (never_stuck (code_of m) m.classes c.in-None.ensures.least);
       };
       sure_bits = record {
@@ -68,5 +68,5 @@ returns-in-None c =
         none_first = λ x y h. s.first x y (omega arith);
         none_second = λ x y h. s.second x y (omega arith);
       };
-      is_laid = c.layout-of.ensures;
+      is_laid = c.layout_of.ensures;
     }

@@ -27,8 +27,8 @@ loop-at-preserved c =
     let text = c.args.text.now in
     let at = c.loop-at.at in
     let x = c.code-code.result in
-    let u = c.character-at-here.result in
-    let e = c.character-at-here.ensures in
+    let u = c.character_at-here.result in
+    let e = c.character_at-here.ensures in
     let rest = characters b (drop (at + u.size) text) in
     let mark : c.if-code-ge128.mark ≡ mark_at x at c.loop-at.mark =
     elim c.if-code-ge128.branch [
@@ -47,8 +47,8 @@ returns-then-state-eq0 c =
     let b = bytes_of c.args.self.now.table in
     let text = c.args.text.now in
     let at = c.loop-at.at in
-    let u = c.character-at-here.result in
-    let e = c.character-at-here.ensures in
+    let u = c.character_at-here.result in
+    let e = c.character_at-here.ensures in
     let x = c.code-code.result in
     let mark : c.if-code-ge128.mark ≡ mark_at x at c.loop-at.mark =
     elim c.if-code-ge128.branch [

@@ -25,12 +25,12 @@ returns-then-start-before c =
     let b = bytes_of r.table in
     let text = c.args.text.now in
     let place = c.args.place in
-    let e = c.character-at-before.ensures in
-    let u = c.character-at-before.result in
+    let e = c.character_at-before.ensures in
+    let u = c.character_at-before.result in
     let first : 1 ≤ place = let ne = c.if-place-eq0.false in omega arith in
     answers text place (wall_at (parts_of r) text place) c.if-text-gt-LIMIT.false c.if-place-text.false false
     (sym (walled r text place first c.if-place-text.false
-    ∙ parted_amid (leads b) (one_class b) (two_class b) (holds r.table.sure.rows) text place (omega arith) c.if-place-text.false c.character-start-start.result c.character-start-start.ensures.value (char u.size u.class) e.some e.reads c.if-start-before.true))
+    ∙ parted_amid (leads b) (one_class b) (two_class b) (holds r.table.sure.rows) text place (omega arith) c.if-place-text.false c.character_start-start.result c.character_start-start.ensures.value (char u.size u.class) e.some e.reads c.if-start-before.true))
 
 pub returns : goal.returns
 returns c =
@@ -38,15 +38,15 @@ returns c =
     let b = bytes_of r.table in
     let text = c.args.text.now in
     let place = c.args.place in
-    let e = c.character-at-before.ensures in
-    let u = c.character-at-before.result in
-    let f = c.character-at-after.ensures in
-    let v = c.character-at-after.result in
+    let e = c.character_at-before.ensures in
+    let u = c.character_at-before.result in
+    let f = c.character_at-after.ensures in
+    let v = c.character_at-after.result in
     let first : 1 ≤ place = let ne = c.if-place-eq0.false in omega arith in
     let is =
     walled r text place first c.if-place-text.false
-    ∙ parted_between (leads b) (one_class b) (two_class b) (holds r.table.sure.rows) text place (omega arith) c.if-place-text.false c.character-start-start.result c.character-start-start.ensures.value (char u.size u.class) e.some e.reads c.if-start-before.false
+    ∙ parted_between (leads b) (one_class b) (two_class b) (holds r.table.sure.rows) text place (omega arith) c.if-place-text.false c.character_start-start.result c.character_start-start.ensures.value (char u.size u.class) e.some e.reads c.if-start-before.false
     (char v.size v.class) (characters b (drop (place + v.size) text)) f.reads in
-    let told = c.is-sure.ensures in
-    let same : ◌≡◌ {A = Bool} c.is-sure.result (wall_at (parts_of r) text place) = cc in
-    answers text place (wall_at (parts_of r) text place) c.if-text-gt-LIMIT.false c.if-place-text.false c.is-sure.result same
+    let told = c.is_sure.ensures in
+    let same : ◌≡◌ {A = Bool} c.is_sure.result (wall_at (parts_of r) text place) = cc in
+    answers text place (wall_at (parts_of r) text place) c.if-text-gt-LIMIT.false c.if-place-text.false c.is_sure.result same
