@@ -16,25 +16,25 @@ codes-in b d h l = let rows = (listed b d l).rows_in in let whole = (head b h).s
 pub returns-in_err-check_header : goal.returns-in_err-check_header
 returns-in_err-check_header c =
     let b = c.args.bytes.now in
-    let p = err_from_is_err_and c.from-residual.result c.from-residual.ensures.1 in
+    let p = err_from_is_err_and c.from_residual.result c.from_residual.ensures.1 in
     rw (p.1, p.2) (header_fails b _ c.in_err-check_header.ensures)
 
 pub returns-in_err-check_list : goal.returns-in_err-check_list
 returns-in_err-check_list c =
     let b = c.args.bytes.now in
-    let p = err_from_is_err_and c.from-residual-in_err-check_list.result c.from-residual-in_err-check_list.ensures.1 in
+    let p = err_from_is_err_and c.from_residual-in_err-check_list.result c.from_residual-in_err-check_list.ensures.1 in
     rw (p.1, p.2) (forward_fails b c.in_ok-check_header.ensures _ c.in_err-check_list.ensures)
 
 pub returns-in_err-check_list-2 : goal.returns-in_err-check_list-2
 returns-in_err-check_list-2 c =
     let b = c.args.bytes.now in
-    let p = err_from_is_err_and c.from-residual-in_err-check_list-2.result c.from-residual-in_err-check_list-2.ensures.1 in
+    let p = err_from_is_err_and c.from_residual-in_err-check_list-2.result c.from_residual-in_err-check_list-2.ensures.1 in
     rw (p.1, p.2) (backward_fails b c.in_ok-check_header.ensures c.in_ok-check_list.ensures _ c.in_err-check_list-2.ensures)
 
 pub returns-in_err-check_classes : goal.returns-in_err-check_classes
 returns-in_err-check_classes c =
     let b = c.args.bytes.now in
-    let p = err_from_is_err_and c.from-residual-in_err-check_classes.result c.from-residual-in_err-check_classes.ensures.1 in
+    let p = err_from_is_err_and c.from_residual-in_err-check_classes.result c.from_residual-in_err-check_classes.ensures.1 in
     rw (p.1, p.2) (classes_fail b c.in_ok-check_header.ensures c.in_ok-check_list.ensures c.in_ok-check_list-2.ensures _ c.in_err-check_classes.ensures)
 
 pub check_codes-requires : goal.check_codes-requires
@@ -47,7 +47,7 @@ check_codes-requires c =
 pub returns-in_err-check_codes : goal.returns-in_err-check_codes
 returns-in_err-check_codes c =
     let b = c.args.bytes.now in
-    let p = err_from_is_err_and c.from-residual-in_err-check_codes.result c.from-residual-in_err-check_codes.ensures.1 in
+    let p = err_from_is_err_and c.from_residual-in_err-check_codes.result c.from_residual-in_err-check_codes.ensures.1 in
     rw (p.1, p.2) (forward_codes_fail b c.in_ok-check_header.ensures c.in_ok-check_list.ensures c.in_ok-check_list-2.ensures c.in_ok-check_classes.ensures _ c.in_err-check_codes.ensures)
 
 pub check_codes-requires-2 : goal.check_codes-requires-2

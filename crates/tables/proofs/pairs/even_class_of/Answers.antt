@@ -33,7 +33,7 @@ returns c =
     let f = c.ranges.second in
     let lt : y < 256 = omega arith in
     let x = get_or b (c.in-Some.at + y) 0 in
-    let typed = c.type-inv.bytes (c.in-Some.at + y) in
+    let typed = c.type_inv.bytes (c.in-Some.at + y) in
     let there : get_or (row_bytes b k) y 0 ≡ x =
     get_or-take 256 (drop (nat_abs (row_start b k)) b) y 0 lt ∙ get_or-drop (nat_abs (row_start b k)) b y 0 ∙ ap (λ (n : ℕ). get_or b (n + y) 0) (sym at) in
     let whole : non_neg (signed8 x) ≡ _ = ap (λ (n : ℕ). non_neg (signed8 n)) (sym there) ∙ even_whole b c.requires.sound.0 k y c.requires.sound.1.1 lt in

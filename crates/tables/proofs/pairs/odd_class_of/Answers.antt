@@ -16,7 +16,7 @@ own_class_place-requires c =
     (header_passes c.args.bytes.now c.requires.sound.0, (c.requires.sound.1.0, (c.requires.entry.0, c.requires.entry.1)))
 
 pub magnitude-requires-else-word_is_whole : goal.magnitude-requires-else-word_is_whole
-magnitude-requires-else-word_is_whole c κs =
+magnitude-requires-else-word_is_whole c =
     let b = c.args.bytes.now in
     let p = c.requires.sound.0 in
     let at = c.auxiliary_place-shared.ensures.value in

@@ -10,16 +10,16 @@ pub invariant_of-result : goal.invariant_of-result
 invariant_of-result c =
     let j = judged c in
     let s = j.sure_bits in
-    let l = j.is_laid in (
-      ap is_some j.is_sound.passes,
-      (
-        j.is_sound.advances,
-        (
-          λ x y r h. (s.bits x y h.0 h.1).0 h.2 r h.3,
-          (
-            λ x y h. (s.bits x y h.0 h.1).1 h.2,
-            (s.none_first, (s.none_second, (l.class_place_is, (l.code_start_is, (l.state_total_is, (l.class_total_is, tt)))))),
-          ),
-        ),
-      ),
-    )
+    let l = j.is_laid in
+    record {
+      passes = ap is_some j.is_sound.passes;
+      advances = j.is_sound.advances;
+      sound = λ x y r h. (s.bits x y h.0 h.1).0 h.2 r h.3;
+      complete = λ x y h. (s.bits x y h.0 h.1).1 h.2;
+      none_first = s.none_first;
+      none_second = s.none_second;
+      class_place_is = l.class_place_is;
+      code_start_is = l.code_start_is;
+      state_total_is = l.state_total_is;
+      class_total_is = l.class_total_is;
+    }

@@ -21,7 +21,7 @@ returns-else-entry-lt128 c =
     let b = bytes_of c.args.self.now in
     let x = c.args.byte in
     let f = c.ranges.byte in
-    let small = c.entry-entry.type-inv in
+    let small = c.entry-entry.type_inv in
     let is : entry b x ≡ negsuc (255 - c.entry-entry.result) = sym c.entry-entry.ensures ∙ byte_below c.entry-entry.result c.if-entry-lt128.false (omega arith) in
     let neg : non_neg (entry b x) ≡ false = ap non_neg is in
     cond-false _ _ _ neg ∙ (and_parts (two_byte b) _ (sym (cond-false _ _ _ neg) ∙ entries_sound b (table_passes c.args.self.now) x (omega arith))).0

@@ -45,7 +45,7 @@ even_class_of-requires c =
     let e = c.entry.result in
     let p = table_passes c.args.self.now in
     let v = c.as_slice-bytes.ensures.value in
-    let small : e < 256 = let o = c.entry.type-inv in omega arith in
+    let small : e < 256 = let o = c.entry.type_inv in omega arith in
     record {
       sound = (
         passes b s c.args.first e p v c.requires c.entry.ensures small,
@@ -64,7 +64,7 @@ odd_class_of-requires c =
     let e = c.entry.result in
     let p = table_passes c.args.self.now in
     let v = c.as_slice-bytes.ensures.value in
-    let small : e < 256 = let o = c.entry.type-inv in omega arith in
+    let small : e < 256 = let o = c.entry.type_inv in omega arith in
     record {
       sound = (
         passes b s c.args.first e p v c.requires c.entry.ensures small,
@@ -81,7 +81,7 @@ returns-then-k-eq0 c =
     let b = bytes_of c.args.self.now in
     let s = c.as_slice-bytes.result.now in
     let e = c.entry.result in
-    let small : e < 256 = let o = c.entry.type-inv in omega arith in
+    let small : e < 256 = let o = c.entry.type_inv in omega arith in
     let chosen = ap nat_abs (cond-true (even (256 - e)) (even_class s (256 - e) c.args.second) (odd_class s (256 - e)) (eq-eqb _ _ c.if-k-eq0.true)) in
     let is = class-is b s c.args.first e (table_passes c.args.self.now) c.as_slice-bytes.ensures.value c.requires c.entry.ensures small c.args.second in
     let told = c.even_class_of.ensures in
@@ -92,6 +92,6 @@ returns-else-k-eq0 c =
     let b = bytes_of c.args.self.now in
     let s = c.as_slice-bytes.result.now in
     let e = c.entry.result in
-    let small : e < 256 = let o = c.entry.type-inv in omega arith in
+    let small : e < 256 = let o = c.entry.type_inv in omega arith in
     c.odd_class_of.ensures ∙ ap nat_abs (sym (cond-false (even (256 - e)) _ _ (ne_eqb _ _ c.if-k-eq0.false)))
     ∙ class-is b s c.args.first e (table_passes c.args.self.now) c.as_slice-bytes.ensures.value c.requires c.entry.ensures small c.args.second
