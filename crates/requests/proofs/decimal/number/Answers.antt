@@ -3,7 +3,7 @@ use Rattle.std.proofs.lemmas.Bool.{eqb-true}
 use Rattle.requests.specs.Decimals.{Decimal}
 use Rattle.requests.proofs.Numerals.{no_plus, empty_plain, read_plain}
 use Rattle.requests.proofs.decimal.number.Goals as goal
-use Rattle.requests.proofs.decimal.number.Goals.{else-not-is_empty-via-then-not-is-empty+else-bytes-eq43, else-not-is_empty-via-else-not-is_empty}
+use Rattle.requests.proofs.decimal.number.Goals.{else-not-is_empty-via-then-not-is_empty+else-bytes-eq43, else-not-is_empty-via-else-not-is_empty}
 
 pub returns-then-bytes-eq43 : goal.returns-then-bytes-eq43
 returns-then-bytes-eq43 c =
@@ -19,7 +19,7 @@ returns c =
     let long : length bytes ≡ length word = ap (λ (l : List ℕ). length l) same in
     let plain : get_or word 0 0 ≡ 43 → ⊥ =
     elim c.else-not-is_empty.branch [
-      | else-not-is_empty-via-then-not-is-empty+else-bytes-eq43 w ↦ λ e. w.if-bytes-eq43.false (begins ∙ e)
+      | else-not-is_empty-via-then-not-is_empty+else-bytes-eq43 w ↦ λ e. w.if-bytes-eq43.false (begins ∙ e)
       | else-not-is_empty-via-else-not-is_empty w ↦ empty_plain word (sym long ∙ eqb-true (length bytes) 0 (sym w.if-not-is_empty.ensures))
     ] in
     let read = read_plain word c.parse.result c.parse.ensures.value.0 plain in

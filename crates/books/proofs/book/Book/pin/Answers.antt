@@ -49,16 +49,16 @@ returns-in-Some-with g c =
     let pins = kept book.pins in
     let wall = c.wall_not_above-wall.ensures in
     let w = c.wall_not_above-wall.result in
-    let n = c.run_over_byte.result.number in
+    let n = c.run_over.result.number in
     let none = sym c.in_default.is ∙ c.at.ensures.value in
     let checked = c.in_ok-check_place.ensures in
     let with_it = c.in-Some-with.ensures in
     let few = with_it.2 (sym none) in
-    let within = c.run_over_byte.ensures.within in
+    let within = c.run_over.ensures.within in
     record {
-      plain = λ f. pinned_new run bounds parts joins text pins f.are_true c.args.place checked.1 w wall.value wall.within wall.wall n none few (ap (λ (r : Run). r.number) (c.run_over_byte.ensures.value f));
+      plain = λ f. pinned_new run bounds parts joins text pins f.are_true c.args.place checked.1 w wall.value wall.within wall.wall n none few (ap (λ (r : Run). r.number) (c.run_over.ensures.value f));
       follows = λ f.
-          let new = left_new run bounds parts joins text pins f.are_true c.args.place checked.1 w wall.value wall.within wall.wall n none few (ap (λ (r : Run). r.number) (c.run_over_byte.ensures.value f)) in
+          let new = left_new run bounds parts joins text pins f.are_true c.args.place checked.1 w wall.value wall.within wall.wall n none few (ap (λ (r : Run). r.number) (c.run_over.ensures.value f)) in
           follows_by run parts _ text (insert (a_pin w n) pins) _ (f.is_long ∙ sym with_it.1) with_it.0 new.1 new.0;
       strange = (record { few = omega (arith, within.few, within.low); within = omega (arith, wall.within, checked.1) }, wall.value);
       keeps = (with_it.0 ∙ sym (cond-false _ _ _ (at_none w pins none)), with_it.1);
