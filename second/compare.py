@@ -215,9 +215,7 @@ def kind_of(program, output):
     if output == b"no rule\n":
         return "no rule"
     if program == "inspect":
-        first, second = output.split(b"\n")[:2]
-        return "accepted, %s, %s" % ("no sure pair" if first.endswith(b" sure 0") else "sure pairs",
-                                     "steady" if second == b"steady" else "unsteady")
+        return "accepted, %s" % ("no sure pair" if output.endswith(b" sure 0\n") else "sure pairs")
     if program == "walls":
         found = output.split(b"\n")[1].count(b" ")
         return "accepted, %s" % ("several walls" if found > 1 else "one wall or none")
@@ -376,13 +374,10 @@ def fixed_inspect(comparison):
         comparison.case("inspect", "edge: " + name, table)
     for name, table, number in edges.sure():
         counts = breaks.accept(table)
-        second = programs.inspect(table).split(b"\n")[1]
-        comparison.case("inspect", "sure: " + name, table, expected=b"states %d classes %d sure %d\n%s\n"
-                        % (counts.states, counts.classes, number, second))
-    for name, table, verdict in edges.steady():
-        first = programs.inspect(table).split(b"\n")[0]
-        second = b"steady" if verdict is None else b"refused %d part %d place %d" % verdict
-        comparison.case("inspect", "steady: " + name, table, expected=first + b"\n" + second + b"\n")
+        comparison.case("inspect", "sure: " + name, table, expected=b"states %d classes %d sure %d\n"
+                        % (counts.states, counts.classes, number))
+    for name, table, _ in edges.steady():
+        comparison.case("inspect", "steady: " + name, table)
 
 
 # First lines of another make, and what follows them.
@@ -416,8 +411,10 @@ NO_RULE = [
     b"rule table joint 4:\n",
     # Leading zeros: the number is not told in decimal as numbers are told here.
     b"rule table joint 045\n", b"rule table joint 00\n", b"rule table tail 0032\n",
-    # One byte too many.
-    b"rule table" + b" joint 45" * 6 + b"\n",
+    # More than two layers.
+    b"rule table joint 45 tail 32 joint 45\n", b"rule line tail 10 tail 10 tail 10\n",
+    b"rule table joint 255 joint 255 joint 255\n", b"rule table joint 45 tail 32 joint 45 tail 32\n",
+    b"rule line" + b" joint 13" * 6 + b"\n", b"rule table" + b" joint 45" * 6 + b"\n",
     # Lines of enormous length, closed or not.
     b"x" * 20000 + b"\n", b"x" * 20000, b"rule table" + b" " * 100000 + b"\n", b"rule line tail 32" + bytes(70000),
     b"rule table joint " + b"1" * 16384 + b"\n", b"rule table" * 3000 + b"\n", b"rule table " * 8000,
@@ -436,8 +433,7 @@ def fixed_walls(comparison):
     for name, table in fixed_tables():
         comparison.walls(name, table, b"rule table joint 45\n" + PAGE)
     for layers in (b"", b" joint 45", b" tail 32", b" joint 45 joint 32", b" joint 45 tail 32", b" tail 32 joint 45",
-                   b" tail 32 tail 45", b" joint 45 joint 45", b" tail 45 joint 45", b" joint 32 tail 32",
-                   b" joint 45 tail 32 joint 32", b" tail 45 tail 32 joint 45 tail 97"):
+                   b" tail 32 tail 45", b" joint 45 joint 45", b" tail 45 joint 45", b" joint 32 tail 32"):
         name = layers.decode("ascii") or " no layer"
         for text in (b"re-cut it", b"cut- it", PAGE, b"", b"-", b" ", b"a", b"--", b"-- --", b"  -a-  b- -c",
                      b"\n\n-\na", b"rule table\nx"):
@@ -449,7 +445,6 @@ def fixed_walls(comparison):
                    b" joint 13 tail 10", b" tail 13 tail 10"):
         for text in (lines, b"", b"\r", b"\n", b"\r\r", b"\r\n", b"a\r\nb\r\n", b"\ra", b"a\r", b"no end"):
             comparison.walls("lines,%s" % layers.decode("ascii"), None, b"rule line" + layers + b"\n" + text)
-    comparison.walls("a first line of 64 bytes", None, b"rule line" + b" joint 13" * 6 + b"\n" + lines)
     for byte in (0, 1, 9, 10, 11, 19, 20, 99, 100, 101, 109, 110, 127, 128, 199, 200, 249, 250, 254, 255):
         text = bytes([65, byte, 65, byte, byte, (byte + 1) % 256, 65, byte])
         comparison.walls("joint %d" % byte, school, b"rule table joint %d\n" % byte + text)

@@ -177,7 +177,7 @@ def main():
         same((rule.cutting(b""), rule.walls(b"")), ([], []))
 
     # `inspect` and `walls`.
-    same(programs.inspect(school), b"states 6 classes 4 sure 9\nsteady\n")
+    same(programs.inspect(school), b"states 6 classes 4 sure 9\n")
     same(programs.inspect(b""), b"refused 1 part 0 place 0\n")
     same(programs.inspect(tables.big_file(100000)), programs.inspect(school))
     same(programs.walls(school, b"rule table\nre-cut it"), b"runs 6 7 9\nwalls 0 6 7\n")

@@ -1,5 +1,5 @@
 -- A state table as a machine: it reads a row of classes, one code for each, and exits at a mark.
-use Rattle.std.specs.Prelude.{◌≡◌, ℕ, ◌+◌, ◌-◌, ◌*◌, ◌/◌, ◌%◌, ◌<◌, ◌≤◌, Bool, cond, List, [], ◌∷◌, length, Some, None, Option, ◌==◌, nat_le, slice_index}
+use Rattle.std.specs.Prelude.{ℕ, ◌+◌, ◌-◌, ◌*◌, ◌/◌, ◌%◌, ◌<◌, ◌≤◌, Bool, cond, List, [], ◌∷◌, length, Some, None, Option, ◌==◌, nat_le, slice_index}
 
 -- which of the codes stands for state s (from 1; state 0 is exit and has none) and class c, of C classes
 abbrev pub index : ℕ → ℕ → ℕ → ℕ

@@ -1,8 +1,7 @@
 -- Find on a text that a book was opened on.
-use Rattle.std.proofs.Common.{◌≡◌, ℕ, zero, suc, ◌<◌, ◌≤◌, List, [], ◌∷◌, length, drop, Ok, sym, refl, ap, ◌∙◌, arith}
+use Rattle.std.proofs.Common.{◌≡◌, ℕ, zero, suc, ◌≤◌, List, [], ◌∷◌, length, drop, Ok, sym, refl, ap, ◌∙◌, arith}
 use Rattle.rules.specs.Cutting.{cut, cutting}
 use Rattle.rules.specs.Runs.{run_over_byte, span_of}
-use Rattle.rules.specs.declared.runs.Run.{Run}
 use Rattle.rules.proofs.Lawful.{answered}
 use Rattle.tables.specs.Meaning.{bytes_of}
 use Rattle.breaks.specs.Meaning.{run_of}

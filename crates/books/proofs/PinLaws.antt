@@ -1,5 +1,5 @@
 -- What pin and unpin answer and leave, beside the plain book.
-use Rattle.std.proofs.Common.{◌≡◌, ℕ, ◌+◌, ◌-◌, ◌<◌, ◌≤◌, Bool, true, false, cond, ◌&&◌, eqb, ltb, leb, List, [], ◌∷◌, map, length, take, drop, is_ok, Some, None, Ok, Err, Option, Result, sym, refl, ap, ◌∙◌, subst, arith, length-drop}
+use Rattle.std.proofs.Common.{◌≡◌, ℕ, ◌-◌, ◌<◌, ◌≤◌, Bool, true, cond, leb, List, length, drop, is_ok, Some, None, Ok, Err, Result, sym, refl, ap, ◌∙◌, subst, arith, length-drop}
 use Rattle.std.specs.List.{AllByRecursion as All}
 use Rattle.std.proofs.lemmas.Bool.{cond-true, cond-false, and_from, lt-ltb, le-ltb, lt-leb}
 use Rattle.std.proofs.lemmas.List.{length-map}
@@ -7,21 +7,20 @@ use Rattle.refusals.specs.declared.Refusal.{Refusal}
 use Rattle.refusals.specs.declared.Refusal.TheVariants.{PinsFull, NoPin}
 use Rattle.rules.specs.Cutting.{cutting, Bounded, Joined}
 use Rattle.rules.specs.Answers.{wall_at}
-use Rattle.rules.specs.Runs.{number_over, run_over_byte}
-use Rattle.rules.specs.declared.runs.Run.{Run}
+use Rattle.rules.specs.Runs.{number_over}
 use Rattle.rules.specs.Cuts.{cutting_some}
 use Rattle.rules.proofs.Lawful.{wall_joined}
-use Rattle.rules.proofs.WallLaws.{Parted, parted_number}
+use Rattle.rules.proofs.WallLaws.{parted_number}
 use Rattle.rules.proofs.RunLaws.{over_parted}
 use Rattle.pins.specs.declared.pin.Pin.{Pin}
 use Rattle.pins.specs.Kept.{kept}
 use Rattle.pins.specs.Order.{insert, without, pin_at}
 use Rattle.books.specs.declared.book.Book.{Book}
 use Rattle.books.specs.Plain.{Plain, is_in, added, placed, taken_out, stands, number_at, pinned_at, nearest_wall, pin_answer, unpin_answer, after_pin, after_unpin}
-use Rattle.books.specs.Faithful.{TruePin, Faithful, Follows, places_of, plain_of}
+use Rattle.books.specs.Faithful.{TruePin, Follows, places_of}
 use Rattle.books.proofs.Refusing.{place_taken}
 use Rattle.books.proofs.Trues.{a_pin}
-use Rattle.books.proofs.Pinnings.{at_some, at_none, places_insert, places_without, all_insert, all_without}
+use Rattle.books.proofs.Pinnings.{at_some, at_none, places_insert, places_without, all_insert}
 
 -- what is left after a call that was answered, or refused
 pub left_ok : {V X : Type 0} (r : Result V Refusal) (v : V) (x y : X) → Ok v ≡ r → cond (is_ok r) x y ≡ x

@@ -1,18 +1,18 @@
 -- What put answers and leaves, beside the plain book.
-use Rattle.std.proofs.Common.{◌≡◌, ℕ, zero, suc, ◌+◌, ◌-◌, ◌<◌, Bool, true, false, cond, ◌&&◌, List, length, set, ℤ, pos, ◌-ℤ◌, neg_ℤ, is_ok, Ok, Err, filter, Result, sym, refl, ap, ◌∙◌, subst, arith}
+use Rattle.std.proofs.Common.{◌≡◌, ℕ, zero, suc, ◌+◌, ◌-◌, ◌<◌, Bool, true, false, cond, ◌&&◌, List, length, set, neg_ℤ, Ok, sym, refl, ap, ◌∙◌, subst, arith}
 use Rattle.std.specs.List.{AllByRecursion as All}
 use Rattle.std.proofs.lemmas.List.{length-set}
 use Rattle.std.proofs.lemmas.Int.{ints}
-use Rattle.rules.specs.Cutting.{cutting, Bounded, Joined}
+use Rattle.rules.specs.Cutting.{Bounded, Joined}
 use Rattle.rules.specs.Answers.{wall_at}
 use Rattle.pins.specs.declared.pin.Pin.{Pin}
 use Rattle.pins.specs.Kept.{kept}
-use Rattle.windows.specs.Windows.{runs, gained, both_walls, greatest, least, window_begin, window_end}
+use Rattle.windows.specs.Windows.{gained, both_walls, greatest, least, window_begin, window_end}
 use Rattle.windows.proofs.WindowLaws.{window_is, window_outside}
 use Rattle.books.specs.declared.book.Book.{Book}
 use Rattle.books.specs.declared.call.Change.{Change}
-use Rattle.books.specs.Plain.{Plain, stands, upset_by, put_answer, after_put}
-use Rattle.books.specs.Faithful.{TruePin, Faithful, Follows, places_of}
+use Rattle.books.specs.Plain.{Plain, upset_by, put_answer, after_put}
+use Rattle.books.specs.Faithful.{TruePin, Follows, places_of}
 use Rattle.books.specs.Moves.{renumbered, Upset}
 use Rattle.books.proofs.Refusing.{place_taken}
 use Rattle.books.proofs.PinLaws.{follows_by, left_ok}

@@ -1,8 +1,8 @@
 -- Refusals of a text that is handed in, and of a place in it.
-use Rattle.std.proofs.Common.{◌≡◌, ℕ, ◌<◌, ◌≤◌, true, false, cond, eqb, ltb, ◌⊎◌, Ok, Err, Result, sym, refl, ap, ◌∙◌, inl, inr, ⊎_elim, arith}
+use Rattle.std.proofs.Common.{◌≡◌, ℕ, ◌<◌, ◌≤◌, Err, Result, sym, ap, ◌∙◌, ⊎_elim}
 use Rattle.std.proofs.lemmas.Bool.{cond-true, cond-false, eq-eqb, ne_eqb, lt-ltb, le-ltb}
 use Rattle.refusals.specs.declared.Refusal.{Refusal}
-use Rattle.refusals.specs.declared.Refusal.TheVariants.{PlaceOutside, OtherLength}
+use Rattle.refusals.specs.declared.Refusal.TheVariants.{PlaceOutside}
 use Rattle.books.specs.Plain.{as_long, inside}
 use Rattle.books.specs.Strange.{LengthRefused, PlaceRefused}
 

@@ -1,19 +1,18 @@
 -- The pins after a written byte.
-use Rattle.std.proofs.Common.{◌≡◌, ℕ, zero, suc, ◌+◌, ◌-◌, ◌<◌, ◌≤◌, min, Bool, true, false, cond, not, ◌&&◌, ltb, leb, ◌⊎◌, List, [], ◌∷◌, ◌++◌, map, length, get_or, take, drop, set, ℤ, pos, negsuc, ◌+ℤ◌, ◌-ℤ◌, filter, sym, refl, ap, ◌∙◌, subst, inl, inr, ⊎_elim, arith}
+use Rattle.std.proofs.Common.{◌≡◌, ℕ, zero, suc, ◌+◌, ◌-◌, ◌<◌, ◌≤◌, min, Bool, true, false, cond, not, ◌&&◌, ltb, leb, List, [], ◌∷◌, ◌++◌, map, length, get_or, take, set, ℤ, pos, negsuc, ◌+ℤ◌, filter, sym, refl, ap, ◌∙◌, ⊎_elim, arith}
 use Rattle.std.specs.List.{AllByRecursion as All}
 use Rattle.std.proofs.lemmas.List.Elements.{filter_more}
 use Rattle.std.proofs.lemmas.List.Filters.{length-filter_both}
-use Rattle.std.proofs.lemmas.List.{map-append, append-nil, length-map, length-take, length-take-le, length-set}
+use Rattle.std.proofs.lemmas.List.{map-append, append-nil, length-map, length-take, length-set}
 use Rattle.std.proofs.lemmas.Bool.{cond_both, cond-true, cond-false, cases_lt, and_parts, and_from, ltb-true, lt-ltb, le-ltb, leb-true, le-leb}
-use Rattle.std.proofs.lemmas.Int.{ints}
 use Rattle.rules.specs.Cutting.{cutting, Bounded, Joined}
 use Rattle.rules.specs.Answers.{wall_at}
 use Rattle.rules.specs.Cuts.{runs_few}
-use Rattle.rules.proofs.WallLaws.{Parted, parted_number}
+use Rattle.rules.proofs.WallLaws.{parted_number}
 use Rattle.pins.specs.declared.pin.Pin.{Pin}
 use Rattle.pins.specs.Order.{rising, above, nought}
-use Rattle.windows.specs.Windows.{gained, both_walls, window_begin, window_end, IsWindow}
-use Rattle.windows.proofs.WindowLaws.{window_is, outside_of, both_parted}
+use Rattle.windows.specs.Windows.{gained, both_walls, IsWindow}
+use Rattle.windows.proofs.WindowLaws.{outside_of, both_parted}
 use Rattle.windows.proofs.Numbers.{number_early, number_late}
 use Rattle.books.specs.Plain.{stands, number_at}
 use Rattle.books.specs.Faithful.{TruePin, places_of}

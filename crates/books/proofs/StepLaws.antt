@@ -1,9 +1,8 @@
 -- A list of steps, one step further.
-use Rattle.std.proofs.Common.{◌≡◌, ℕ, ◌+◌, ◌<◌, ◌≤◌, Bool, true, false, cond, eqb, ltb, List, [], ◌∷◌, ◌++◌, length, get_or, drop, set, None, Ok, Err, Result, sym, refl, ap, ◌∙◌, subst, ⊎_elim, arith}
+use Rattle.std.proofs.Common.{◌≡◌, ℕ, ◌+◌, ◌<◌, ◌≤◌, Bool, true, false, cond, eqb, ltb, List, [], ◌∷◌, ◌++◌, length, get_or, drop, set, None, Ok, Err, sym, ap, ◌∙◌, subst, ⊎_elim, arith}
 use Rattle.std.specs.List.{AllByRecursion as All}
 use Rattle.std.proofs.lemmas.List.{at_drop_more, at_drop_all, append_assoc, append-nil}
 use Rattle.std.proofs.lemmas.Bool.{cond-true, cond-false, cases_Bool, eqb-true, ltb-true}
-use Rattle.refusals.specs.declared.Refusal.{Refusal}
 use Rattle.rules.specs.Cutting.{Bounded, Joined}
 use Rattle.pins.specs.declared.pin.Pin.{Pin}
 use Rattle.pins.specs.Kept.{kept}
@@ -11,9 +10,8 @@ use Rattle.books.specs.declared.book.Book.{Book}
 use Rattle.books.specs.declared.call.Call.{Call}
 use Rattle.books.specs.declared.call.Call.TheVariants.{Look, Fetch, Read, Pin as PinAt, Unpin, Try, Put}
 use Rattle.books.specs.declared.call.Answer.{Answer}
-use Rattle.books.specs.declared.call.Change.{Change}
 use Rattle.books.specs.declared.call.Step.{Step}
-use Rattle.books.specs.Plain.{Plain, opened, inside, upset_by, put_answer, answer, after, handed_at, answers, final}
+use Rattle.books.specs.Plain.{Plain, opened, inside, upset_by, answer, after, handed_at, answers, final}
 use Rattle.books.specs.Faithful.{TruePin, Faithful, Follows, places_of, plain_of}
 use Rattle.books.specs.Moves.{Upset}
 use Rattle.books.specs.Promises.{Stepped, CarriedOut, PutUpsets, EachPutUpsets, TruePins}

@@ -1,5 +1,5 @@
 -- Walking from a true pin.
-use Rattle.std.proofs.Common.{◌≡◌, ℕ, ◌+◌, ◌-◌, ◌<◌, ◌≤◌, Bool, true, ◌&&◌, ltb, List, length, get_or, take, drop, Some, None, Ok, Err, Option, unwrap_or, sym, refl, ap, ◌∙◌, subst, arith, length-append}
+use Rattle.std.proofs.Common.{◌≡◌, ℕ, ◌+◌, ◌-◌, ◌<◌, ◌≤◌, Bool, true, ltb, List, length, get_or, take, drop, Some, None, Ok, Err, Option, unwrap_or, sym, refl, ap, ◌∙◌, subst, arith, length-append}
 use Rattle.std.specs.List.{AllByRecursion as All}
 use Rattle.std.proofs.lemmas.Bool.{and_parts, ltb-true, cond-true, cond-false, lt-ltb, le-ltb}
 use Rattle.std.proofs.lemmas.List.{length-map, get_or-map}
@@ -13,12 +13,12 @@ use Rattle.rules.specs.declared.runs.Span.{Span}
 use Rattle.rules.specs.Cuts.{cutting_none}
 use Rattle.rules.proofs.Lawful.{wall_joined}
 use Rattle.rules.proofs.WallLaws.{Parted, parted_cutting, parted_number}
-use Rattle.rules.proofs.RunLaws.{a_run, later_by, over_later_parted, nth_parted}
+use Rattle.rules.proofs.RunLaws.{a_run, over_later_parted, nth_parted}
 use Rattle.windows.specs.Windows.{runs}
 use Rattle.pins.specs.declared.pin.Pin.{Pin}
 use Rattle.pins.specs.Order.{last_by, nought}
 use Rattle.pins.proofs.Lasts.{last_of}
-use Rattle.books.specs.Plain.{stands, number_at, pinned_at, fetch_answer, read_answer}
+use Rattle.books.specs.Plain.{number_at, pinned_at, fetch_answer, read_answer}
 use Rattle.books.specs.Faithful.{TruePin, places_of}
 use Rattle.books.proofs.Refusing.{length_taken}
 

@@ -20,7 +20,7 @@ use Rattle.books.specs.declared.call.Step.{Step}
 use Rattle.books.specs.declared.call.Halt.{Halt}
 use Rattle.books.specs.declared.call.Halt.TheVariants.{Refused, NoMemory}
 use Rattle.books.specs.Plain.{Plain, look_answer, put_answer, answer, after, handed_at, answers, final}
-use Rattle.books.specs.Faithful.{Faithful, Follows, TruePin, places_of, plain_of}
+use Rattle.books.specs.Faithful.{Follows, TruePin, places_of}
 use Rattle.books.specs.Moves.{Upset}
 
 -- one call on a book that is faithful to its text: it answers as the plain book does, and stays faithful

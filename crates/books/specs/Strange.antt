@@ -1,6 +1,6 @@
 -- What a book answers of any text as long as its own, even of one that it was not opened on: its answers stay within that
 -- text. Refusals of the length handed in and of the place are the same whatever the text holds.
-use Rattle.std.specs.Prelude.{◌≡◌, ℕ, ◌<◌, ◌≤◌, Bool, false, ◌⊎◌, Result, MatchResult, ◌≢◌}
+use Rattle.std.specs.Prelude.{◌≡◌, ℕ, ◌<◌, ◌≤◌, Bool, false, ◌⊎◌, ◌≢◌}
 use Rattle.refusals.specs.declared.Refusal.{Refusal}
 use Rattle.refusals.specs.declared.Refusal.TheVariants.{PlaceOutside, NumberOutside, OtherLength, PinsFull, NoPin}
 use Rattle.rules.specs.declared.runs.Run.{Run}

@@ -7,7 +7,7 @@ use Rattle.rules.specs.Answers.{about_place}
 use Rattle.tables.specs.Layout.{machine}
 use Rattle.tables.specs.Classes.{leads, one_class, two_class}
 use Rattle.tables.specs.Meaning.{bytes_of}
-use Rattle.breaks.specs.Chars.{Char, char, chars}
+use Rattle.breaks.specs.Chars.{Char, chars}
 use Rattle.breaks.specs.Tables.{scan_run, parted}
 use Rattle.breaks.specs.declared.rule.TableRule.{TableRule}
 use Rattle.breaks.specs.declared.characters.Character.{Character}

@@ -1,5 +1,5 @@
 -- The table rule: what a table's characters and its forward state table make of a text.
-use Rattle.std.specs.Prelude.{ℕ, ◌-◌, Bool, false, cond, List, [], ◌∷◌, ◌++◌, length, take, ◌==◌, nat_lt}
+use Rattle.std.specs.Prelude.{ℕ, ◌-◌, Bool, false, cond, List, [], ◌∷◌, length, take, ◌==◌, nat_lt}
 use Rattle.automata.specs.Machine.{scanned, taken}
 use Rattle.breaks.specs.Chars.{Char, span, row_of}
 

@@ -1,5 +1,5 @@
 -- Find does not begin past its place.
-use Rattle.std.proofs.Common.{◌≡◌, ℕ, zero, suc, ◌+◌, ◌-◌, ◌<◌, ◌≤◌, cond, eqb, ltb, ◌⊎◌, List, [], ◌∷◌, ◌++◌, reverse, drop, Some, None, Option, sym, refl, ap, ◌∙◌, subst, inl, inr, ⊎_elim, arith}
+use Rattle.std.proofs.Common.{◌≡◌, ℕ, zero, suc, ◌+◌, ◌-◌, ◌<◌, ◌≤◌, ltb, ◌⊎◌, List, [], ◌∷◌, ◌++◌, reverse, drop, Some, None, Option, refl, ap, ◌∙◌, inl, inr, ⊎_elim, arith}
 use mathlib.Core.List.{reverse-append}
 use Rattle.std.proofs.lemmas.Bool.{cond_both, cond-false, ne_eqb, cases_lt}
 use Rattle.refusals.specs.declared.Direction.TheVariants.{Backward}

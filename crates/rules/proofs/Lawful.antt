@@ -1,9 +1,8 @@
 -- Answers about a place, and walls at it.
-use Rattle.std.proofs.Common.{◌≡◌, ℕ, zero, suc, ◌<◌, ◌≤◌, Bool, true, false, cond, eqb, ltb, List, ◌++◌, length, take, drop, Ok, Err, Result, sym, refl, ap, ◌∙◌, ⊎_elim, arith}
+use Rattle.std.proofs.Common.{◌≡◌, ℕ, zero, suc, ◌<◌, ◌≤◌, Bool, true, List, ◌++◌, length, take, drop, Ok, sym, ap, ◌∙◌, ⊎_elim, arith}
 use Rattle.std.proofs.lemmas.Bool.{cond-true, cond-false, lt-ltb, le-ltb, ne_eqb, cases_lt}
-use Rattle.refusals.specs.declared.Refusal.{Refusal}
 use Rattle.rules.specs.Cutting.{cutting, Bounded, Joined}
-use Rattle.rules.specs.Answers.{about, about_place, wall_at}
+use Rattle.rules.specs.Answers.{about_place, wall_at}
 use Rattle.rules.specs.Cuts.{cutting_none}
 
 module _ {V : Type 0} (text : List ℕ) (place : ℕ) (v : V) (short : length text ≤ 16383) (inside : place < length text) where

@@ -1,12 +1,12 @@
 -- Runs by number and by place.
-use Rattle.std.proofs.Common.{◌≡◌, ℕ, zero, suc, ◌+◌, ◌-◌, ◌<◌, ◌≤◌, true, false, cond, leb, List, [], ◌∷◌, ◌++◌, length, take, drop, sym, refl, ap, ◌∙◌, arith, length-append, length-drop}
+use Rattle.std.proofs.Common.{◌≡◌, ℕ, suc, ◌+◌, ◌-◌, ◌<◌, ◌≤◌, leb, List, [], ◌∷◌, ◌++◌, length, take, drop, sym, refl, ap, ◌∙◌, arith}
 use Rattle.std.proofs.lemmas.List.{length-take-le}
 use Rattle.std.proofs.lemmas.Bool.{cond-true, cond-false, le-leb, lt-leb}
 use Rattle.rules.specs.Cutting.{cutting, Bounded}
 use Rattle.rules.specs.Walls.{total}
-use Rattle.rules.specs.Runs.{starts_at, ends_at, number_over, nth_from, over_from, run_over_byte}
+use Rattle.rules.specs.Runs.{number_over, nth_from, over_from, run_over_byte}
 use Rattle.rules.specs.declared.runs.Run.{Run}
-use Rattle.rules.specs.Cuts.{cutting_from, cutting_none, end_inside}
+use Rattle.rules.specs.Cuts.{cutting_from}
 use Rattle.rules.proofs.WallLaws.{Parted, parted_cutting, total_cutting}
 
 abbrev pub a_run : ℕ → ℕ → ℕ → Run

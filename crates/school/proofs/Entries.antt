@@ -1,5 +1,5 @@
 -- Each entry of the school table's class table follows its rule: one test over the whole table, carried to each entry.
-use Rattle.std.proofs.Common.{◌≡◌, ℕ, ◌<◌, Bool, true, ◌&&◌, eqb, List, [], ◌∷◌, ℤ, pos, negsuc, nat_abs, refl, ◌∙◌}
+use Rattle.std.proofs.Common.{◌≡◌, ℕ, ◌<◌, Bool, true, ◌&&◌, eqb, ℤ, pos, negsuc, nat_abs, refl}
 use lib.Signed.{non_neg}
 use Rattle.std.proofs.lemmas.Bool.{and_parts, eqb-true, false≢true}
 use Rattle.tables.specs.Classes.{entry, every}

@@ -1,11 +1,11 @@
 -- Classes of a table that passes its checks: what leads to them lies inside, and they are below C.
-use Rattle.std.proofs.Common.{◌≡◌, ℕ, suc, ◌+◌, ◌-◌, ◌<◌, ◌≤◌, Bool, true, false, cond, ◌&&◌, ltb, List, length, get_or, take, drop, ℤ, pos, negsuc, nat_abs, sym, refl, ap, ◌∙◌, subst, inl, inr, arith, length-drop}
+use Rattle.std.proofs.Common.{◌≡◌, ℕ, ◌+◌, ◌-◌, ◌<◌, ◌≤◌, true, false, cond, ◌&&◌, List, length, get_or, take, drop, ℤ, pos, nat_abs, sym, ap, ◌∙◌, subst, inl, inr, arith, length-drop}
 use lib.Signed.{non_neg}
 use Rattle.std.proofs.lemmas.List.{get_or-take, get_or-drop, get_or_past, length-take-le}
 use Rattle.std.proofs.lemmas.Bool.{cond-true, cond-false, cases_Bool, cases_lt, and_parts, both_ways, false≢true}
-use Rattle.tables.specs.Words.{signed8, byte, word, even, within}
+use Rattle.tables.specs.Words.{signed8, byte, word, even}
 use Rattle.tables.specs.Layout.{size, fits, two_byte, class_table, auxiliary, classes}
-use Rattle.tables.specs.Classes.{class_bytes, entry, leads, shared, own_place, odd_class, row_start, row_bytes, even_class, one_class, two_class, is_class, every, odd_sound, even_sound, entry_sound}
+use Rattle.tables.specs.Classes.{class_bytes, entry, leads, shared, own_place, odd_class, row_start, row_bytes, even_class, one_class, two_class, is_class, every, odd_sound, even_sound}
 use Rattle.tables.specs.Checks.{Passes, checks}
 use Rattle.refusals.specs.declared.Direction.TheVariants.{Forward}
 use Rattle.tables.proofs.Numbers.{within_high, within_whole, fits_inside}

@@ -1,5 +1,5 @@
 -- Two tests that agree count the same pairs.
-use Rattle.std.proofs.Common.{◌≡◌, ℕ, zero, suc, ◌+◌, ◌<◌, Bool, true, false, cond, sym, refl, ap, ◌∙◌, arith}
+use Rattle.std.proofs.Common.{◌≡◌, ℕ, zero, suc, ◌+◌, ◌<◌, Bool, cond, refl, ap, ◌∙◌, arith}
 use Rattle.automata.specs.Sure.{count_row, count_pairs}
 
 row_same : (p q : ℕ → Bool) (n : ℕ) → ((k : ℕ) → k < n → p k ≡ q k) → count_row p n ≡ count_row q n

@@ -1,11 +1,11 @@
 -- What a header that passes says.
-use Rattle.std.proofs.Common.{◌≡◌, ℕ, ◌+◌, ◌≤◌, Bool, true, false, not, ◌||◌, leb, List, [], ◌∷◌, length, nat_abs, sym, refl, ◌∙◌, inl, inr}
+use Rattle.std.proofs.Common.{◌≡◌, ℕ, ◌+◌, ◌≤◌, true, List, length, inl, inr}
 use Rattle.std.proofs.lemmas.Bool.{leb-true, or_cases, not-true, both_ways}
 use Rattle.refusals.specs.declared.Direction.{Direction}
 use Rattle.refusals.specs.declared.Direction.TheVariants.{Forward, Backward}
-use Rattle.tables.specs.Words.{word, within}
-use Rattle.tables.specs.Layout.{size, fits, two_byte, class_table, auxiliary, state_table}
-use Rattle.tables.specs.Checks.{Check, Passes, header_checks}
+use Rattle.tables.specs.Words.{word}
+use Rattle.tables.specs.Layout.{size, two_byte, class_table, auxiliary, state_table}
+use Rattle.tables.specs.Checks.{Passes, header_checks}
 use Rattle.tables.proofs.Passing.{all_pass}
 use Rattle.tables.proofs.Numbers.{within_low, within_high, fits_inside}
 

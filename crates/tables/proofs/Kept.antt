@@ -1,5 +1,5 @@
 -- What an accepted table keeps.
-use Rattle.std.proofs.Common.{◌≡◌, ℕ, List, length, vec_len}
+use Rattle.std.proofs.Common.{◌≡◌, length, vec_len}
 use Rattle.automata.specs.Sure.{holds}
 use Rattle.tables.specs.Checks.{first_failed, Passes, checks}
 use Rattle.tables.specs.Verdicts.{Tells}

@@ -1,5 +1,5 @@
 -- Numbers of a table that lie within limits.
-use Rattle.std.proofs.Common.{◌≡◌, ℕ, ◌+◌, ◌-◌, ◌<◌, ◌≤◌, Bool, true, false, ◌&&◌, leb, List, ℤ, pos, negsuc, nat_abs, refl, ap, ◌∙◌, inl, inr, arith}
+use Rattle.std.proofs.Common.{◌≡◌, ℕ, ◌+◌, ◌-◌, ◌<◌, ◌≤◌, true, false, List, ℤ, pos, negsuc, nat_abs, refl, ap, ◌∙◌, inl, inr, arith}
 use lib.Signed.{non_neg}
 use Rattle.std.proofs.lemmas.Bool.{and_parts, leb-true, false≢true, cond-true, cond-false, lt-ltb, le-ltb, cases_lt, both_ways}
 use Rattle.std.proofs.lemmas.Int.{ints}

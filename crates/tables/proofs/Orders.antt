@@ -2,7 +2,7 @@
 use Rattle.std.proofs.Common.{◌≡◌, ℕ, List, Some, Result, ◌∙◌}
 use Rattle.refusals.specs.declared.Direction.TheVariants.{Forward, Backward}
 use Rattle.refusals.specs.declared.Refusal.{Refusal}
-use Rattle.tables.specs.Checks.{Check, first_failed, Passes, Checked, checks, header_checks, list_checks, class_checks, code_checks}
+use Rattle.tables.specs.Checks.{first_failed, Passes, Checked, checks, header_checks, list_checks, class_checks, code_checks}
 use Rattle.tables.proofs.Passing.{append_passes, append_fails, checked_same}
 use Rattle.tables.proofs.Tabled.{from_forward, from_backward, from_classes, from_codes}
 

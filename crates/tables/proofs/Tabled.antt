@@ -1,19 +1,18 @@
 -- What the lists and the codes of a table that passes its checks say.
-use Rattle.std.proofs.Common.{◌≡◌, ℕ, zero, suc, ◌+◌, ◌-◌, ◌*◌, ◌/◌, ◌<◌, ◌≤◌, Bool, true, false, ltb, leb, List, [], ◌∷◌, ◌++◌, length, get_or, take, drop, nat_abs, sym, refl, ap, ◌∙◌, subst, arith}
+use Rattle.std.proofs.Common.{◌≡◌, ℕ, ◌+◌, ◌-◌, ◌<◌, ◌≤◌, true, List, ◌++◌, length, get_or, drop, sym, ap, ◌∙◌, subst, arith}
 use Rattle.std.proofs.lemmas.List.{get_or-take, get_or-drop}
 use Rattle.std.proofs.lemmas.Bool.{leb-true, ltb-true, and_parts}
 use Rattle.refusals.specs.declared.Direction.{Direction}
 use Rattle.refusals.specs.declared.Direction.TheVariants.{Forward, Backward}
 use Rattle.refusals.specs.declared.Refusal.TheVariants.{CodeWrong, ClassWrong}
 use Rattle.automata.specs.Machine.{index, next}
-use Rattle.tables.specs.Words.{within}
-use Rattle.tables.specs.Layout.{size, class_table, state_table, list_word, states, classes, codes, machine, code_place, code_count}
+use Rattle.tables.specs.Layout.{size, class_table, list_word, states, classes, codes, machine, code_place, code_count}
 use Rattle.tables.specs.Classes.{entry, entry_sound}
 use Rattle.tables.specs.Checks.{Check, Passes, checks, header_checks, list_checks, class_checks, code_checks, code_sound}
 use Rattle.std.proofs.lemmas.Nat.{mul-add-lt}
 use Rattle.tables.proofs.Numbers.{within_low, within_high}
 use Rattle.tables.proofs.Heads.{head}
-use Rattle.tables.proofs.Passing.{all_pass, head_passes, tail_passes, left_passes, right_passes, passes_each}
+use Rattle.tables.proofs.Passing.{all_pass, left_passes, right_passes, passes_each}
 
 pub record Listed (b : List ℕ) (d : Direction) : Type 0 where
   pub low : 3 ≤ states b d

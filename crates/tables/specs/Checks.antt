@@ -1,5 +1,5 @@
 -- What is asked of a break table, in the order in which it is tried: each check with its refusal.
-use Rattle.std.specs.Prelude.{◌≡◌, ℕ, zero, suc, ◌+◌, ◌-◌, ◌*◌, Bool, cond, not, ◌&&◌, ◌||◌, List, [], ◌∷◌, ◌++◌, length, pos, Some, None, Option, Result, MatchResult, nat_le, nat_lt, slice_index, unsigned_abs}
+use Rattle.std.specs.Prelude.{◌≡◌, ℕ, zero, suc, ◌+◌, ◌-◌, ◌*◌, Bool, cond, not, ◌&&◌, ◌||◌, List, [], ◌∷◌, ◌++◌, length, Some, None, Option, Result, MatchResult, nat_le, nat_lt, slice_index, unsigned_abs}
 use Rattle.refusals.specs.declared.Direction.{Direction}
 use Rattle.refusals.specs.declared.Direction.TheVariants.{Forward, Backward}
 use Rattle.refusals.specs.declared.Refusal.{Refusal}

@@ -1,6 +1,6 @@
 -- Where the parts of a break table stand, and how large they are, as its bytes tell. The numbers mean something where
 -- the table passes its checks.
-use Rattle.std.specs.Prelude.{ℕ, ◌+◌, ◌-◌, ◌*◌, ◌/◌, Bool, true, false, cond, not, ◌&&◌, List, take, drop, ℤ, pos, ◌==◌, nat_le, slice_index, unsigned_abs}
+use Rattle.std.specs.Prelude.{ℕ, ◌+◌, ◌-◌, ◌*◌, ◌/◌, Bool, cond, not, ◌&&◌, List, take, drop, ℤ, ◌==◌, nat_le, slice_index, unsigned_abs}
 use Rattle.std.specs.Int.Signed.{non_neg}
 use Rattle.refusals.specs.declared.Direction.{Direction}
 use Rattle.refusals.specs.declared.Direction.TheVariants.{Forward, Backward}

@@ -1,6 +1,6 @@
 -- What is said of an accepted table.
 use Rattle.std.specs.Prelude.{◌≡◌, ℕ, List, vec_items, Result, MatchResult}
-use Rattle.tables.specs.Verdicts.{Sound, SureBits, Refused}
+use Rattle.tables.specs.Verdicts.{Sound, Refused}
 use Rattle.tables.specs.declared.table.Table.{Table}
 use Rattle.tables.specs.declared.table.accept.Rejected.{Rejected}
 

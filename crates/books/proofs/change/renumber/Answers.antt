@@ -1,8 +1,8 @@
-use Rattle.std.proofs.Common.{◌≡◌, ℕ, ◌+◌, ◌<◌, ◌≤◌, true, false, List, [], ◌∷◌, ◌++◌, length, get_or, take, ℤ, sym, ap, ◌∙◌, subst, arith, w32, to_z, of_z, rules}
+use Rattle.std.proofs.Common.{◌≡◌, ◌+◌, ◌≤◌, List, [], ◌∷◌, ◌++◌, length, take, ℤ, sym, ap, ◌∙◌, arith, w32, to_z, of_z, rules}
 use Rattle.std.proofs.lemmas.List.{take_all}
 use Rattle.std.proofs.lemmas.Int.{to_z-of_z}
 use Rattle.pins.specs.declared.pin.Pin.{Pin}
-use Rattle.pins.specs.Order.{rising, nought}
+use Rattle.pins.specs.Order.{rising}
 use Rattle.pins.specs.Kept.{kept}
 use Rattle.pins.proofs.Rising.{T_true}
 use Rattle.books.specs.Moves.{moved, renumbered}

@@ -1,8 +1,7 @@
-use Rattle.std.proofs.Common.{◌≡◌, ℕ, ◌≤◌, Bool, cond, ltb, List, length, is_ok, IfOk, Ok, Err, vec_items, Result, sym, ap, ◌∙◌, subst, inl}
+use Rattle.std.proofs.Common.{◌≡◌, ℕ, ◌≤◌, cond, ltb, List, length, is_ok, IfOk, vec_items, Result, sym, ap, ◌∙◌, subst, inl}
 use Rattle.std.proofs.lemmas.Bool.{cond_both, ltb-false}
 use Rattle.refusals.specs.declared.Refusal.{Refusal}
 use Rattle.rules.specs.CutFiles.{cut_file, file_size, written, over}
-use Rattle.tables.specs.Meaning.{bytes_of}
 use Rattle.breaks.specs.Meaning.{table_run}
 use Rattle.breaks.proofs.page.cut_page.Goals as goal
 

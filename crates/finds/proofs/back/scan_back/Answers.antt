@@ -1,7 +1,7 @@
 use Rattle.std.proofs.Common.{◌≡◌, ℕ, ◌-◌, ◌%◌, ◌<◌, ◌≤◌, List, [], reverse, length, sym, ap, ◌∙◌, subst, arith}
 use Rattle.refusals.specs.declared.Direction.TheVariants.{Backward}
 use Rattle.automata.specs.Machine.{next}
-use Rattle.tables.specs.Layout.{machine, states, classes}
+use Rattle.tables.specs.Layout.{machine}
 use Rattle.tables.specs.Classes.{leads}
 use Rattle.tables.specs.Meaning.{bytes_of}
 use Rattle.tables.proofs.Kept.{table_passes}

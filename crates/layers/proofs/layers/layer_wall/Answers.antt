@@ -1,4 +1,4 @@
-use Rattle.std.proofs.Common.{◌≡◌, arith}
+use Rattle.std.proofs.Common.{arith}
 use Rattle.rules.specs.Answers.{wall_at}
 use Rattle.layers.specs.Layers.{layer_parts}
 use Rattle.rules.proofs.Lawful.{accepted, answers}

@@ -1,4 +1,4 @@
-use Rattle.std.proofs.Common.{◌≡◌, ◌+◌, ◌≤◌, List, length, drop, ap, ◌∙◌, arith}
+use Rattle.std.proofs.Common.{List, length, ap, arith}
 use Rattle.std.proofs.lemmas.List.{drop_all}
 use Rattle.rules.specs.Cutting.{cutting}
 use Rattle.rules.specs.Cuts.{cutting_from, cutting_none}

@@ -1,7 +1,6 @@
-use Rattle.std.proofs.Common.{◌≡◌, ℕ, ◌*◌, ◌≤◌, cond, length, Ok, Err, sym, ap, ◌∙◌, arith}
+use Rattle.std.proofs.Common.{ℕ, ◌≤◌, length, Ok, sym, ap, ◌∙◌, arith}
 use Rattle.std.proofs.lemmas.Bool.{cond-false, le-ltb}
-use Rattle.rules.specs.Cutting.{cutting}
-use Rattle.rules.specs.CutFiles.{file_size, written}
+use Rattle.rules.specs.CutFiles.{file_size}
 use Rattle.rules.specs.Cuts.{runs_few}
 use Rattle.rules.proofs.cut_file.write_cut_file.Goals as goal
 use Rattle.rules.proofs.cut_file.write_cut_file.Goals.{then-buffer-text+else-buffer-needed, else-buffer-text}

@@ -1,10 +1,10 @@
-use Rattle.std.proofs.Common.{◌≡◌, ℕ, ◌+◌, ◌<◌, ◌≤◌, List, length, get_or, take, drop, nat_abs, sym, ap, ◌∙◌, arith}
+use Rattle.std.proofs.Common.{◌≡◌, ℕ, ◌+◌, ◌<◌, get_or, drop, nat_abs, sym, ap, ◌∙◌, arith}
 use lib.Signed.{non_neg}
 use Rattle.std.proofs.lemmas.List.{get_or-take, get_or-drop}
 use Rattle.std.proofs.lemmas.Bool.{both_ways}
 use Rattle.tables.specs.Words.{signed8}
 use Rattle.tables.specs.Layout.{fits}
-use Rattle.tables.specs.Classes.{row_start, row_bytes, even_class}
+use Rattle.tables.specs.Classes.{row_start, row_bytes}
 use Rattle.tables.proofs.Numbers.{byte_above, byte_whole}
 use Rattle.tables.proofs.Heads.{head}
 use Rattle.tables.proofs.Tabled.{header_passes}

@@ -1,8 +1,8 @@
-use Rattle.std.proofs.Common.{◌≡◌, ℕ, ◌+◌, ◌≤◌, Bool, true, false, ℤ, nat_abs, sym, ap, ◌∙◌, arith}
+use Rattle.std.proofs.Common.{◌≡◌, ℕ, true, false, nat_abs, sym, ap, ◌∙◌, arith}
 use lib.Signed.{non_neg}
 use Rattle.std.proofs.lemmas.Bool.{cond-true, cond-false}
 use Rattle.tables.specs.Words.{word}
-use Rattle.tables.specs.Classes.{shared, own_place}
+use Rattle.tables.specs.Classes.{shared}
 use Rattle.tables.proofs.Heads.{head}
 use Rattle.tables.proofs.Tabled.{header_passes}
 use Rattle.tables.proofs.Classed.{odd_own}

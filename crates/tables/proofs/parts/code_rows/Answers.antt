@@ -1,5 +1,5 @@
-use Rattle.std.proofs.Common.{◌≡◌, ℕ, ◌+◌, ◌-◌, ◌≤◌, List, length, take, drop, ap, ◌∙◌, arith}
-use Rattle.tables.specs.Layout.{code_place, code_count}
+use Rattle.std.proofs.Common.{◌≡◌, ℕ, ◌+◌, ◌-◌, take, drop, ap, ◌∙◌, arith}
+use Rattle.tables.specs.Layout.{code_count}
 use Rattle.tables.proofs.Slices.{part_size}
 use Rattle.tables.proofs.parts.code_rows.Goals as goal
 

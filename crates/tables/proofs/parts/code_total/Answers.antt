@@ -1,6 +1,6 @@
-use Rattle.std.proofs.Common.{◌≡◌, ℕ, ◌-◌, ◌*◌, ◌≤◌, ap, ◌∙◌, arith}
+use Rattle.std.proofs.Common.{◌≡◌, ℕ, ◌-◌, ◌*◌, ap, ◌∙◌, arith}
 use Rattle.std.proofs.lemmas.Nat.{mul-le}
-use Rattle.tables.specs.Layout.{states, classes}
+use Rattle.tables.specs.Layout.{states}
 use Rattle.tables.proofs.parts.code_total.Goals as goal
 
 pub returns : goal.returns

@@ -1,7 +1,6 @@
 use Rattle.std.proofs.Common.{◌≡◌, ℕ, ◌+◌, ◌≤◌, ℤ, pos, ◌+ℤ◌, ap, ◌∙◌, arith, w16, w32, SFits, to_z, of_z, rules}
 use Rattle.std.proofs.lemmas.Int.{ints}
 use Rattle.tables.specs.Words.{word}
-use Rattle.tables.specs.Layout.{auxiliary}
 use Rattle.tables.proofs.parts.signed_row_place.Goals as goal
 
 -- the sum fits, so that it is that of the numbers

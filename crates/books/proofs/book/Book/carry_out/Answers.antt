@@ -1,4 +1,4 @@
-use Rattle.std.proofs.Common.{◌≡◌, get_or, vec_items, sym, refl, ap, ◌∙◌, subst, arith, rules}
+use Rattle.std.proofs.Common.{get_or, vec_items, ◌∙◌, subst, arith}
 use Rattle.books.specs.Plain.{handed_at}
 use Rattle.books.specs.Faithful.{Faithful, plain_of}
 use Rattle.books.specs.Promises.{Stepped}

@@ -1,4 +1,4 @@
-use Rattle.std.proofs.Common.{◌≡◌, refl, inr, rules}
+use Rattle.std.proofs.Common.{refl, inr, rules}
 use Rattle.pins.specs.Order.{numbered_up_to}
 use Rattle.pins.specs.Kept.{kept}
 use Rattle.books.specs.Faithful.{places_of}

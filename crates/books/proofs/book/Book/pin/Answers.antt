@@ -1,7 +1,6 @@
-use Rattle.std.proofs.Common.{◌≡◌, sym, refl, ap, ◌∙◌, inr, arith, rules}
+use Rattle.std.proofs.Common.{sym, refl, ap, ◌∙◌, inr, arith}
 use Rattle.std.proofs.lemmas.Bool.{cond-true, cond-false}
 use Rattle.rules.specs.declared.runs.Run.{Run}
-use Rattle.pins.specs.declared.pin.Pin.{Pin}
 use Rattle.pins.specs.Kept.{kept}
 use Rattle.pins.specs.Order.{insert}
 use Rattle.books.specs.Plain.{is_in}

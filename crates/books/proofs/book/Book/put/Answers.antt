@@ -1,4 +1,4 @@
-use Rattle.std.proofs.Common.{◌≡◌, ℕ, List, set, Ok, sym, refl, ap, ◌∙◌, rules}
+use Rattle.std.proofs.Common.{ℕ, List, set, Ok, sym, refl, ap, ◌∙◌}
 use Rattle.pins.specs.Kept.{kept}
 use Rattle.books.specs.declared.call.Change.{Change}
 use Rattle.books.specs.Faithful.{places_of}

@@ -1,4 +1,4 @@
-use Rattle.std.proofs.Common.{◌≡◌, refl, inr, rules}
+use Rattle.std.proofs.Common.{refl, inr, rules}
 use Rattle.pins.specs.Kept.{kept}
 use Rattle.books.proofs.Trues.{read_some, read_none}
 use Rattle.books.proofs.book.Book.read.Goals as goal

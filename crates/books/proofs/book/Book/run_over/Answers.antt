@@ -1,4 +1,4 @@
-use Rattle.std.proofs.Common.{arith, rules}
+use Rattle.std.proofs.Common.{rules}
 use Rattle.pins.specs.Order.{up_to}
 use Rattle.pins.specs.Kept.{kept}
 use Rattle.books.proofs.Trues.{start_found, look_from}

@@ -1,4 +1,4 @@
-use Rattle.std.proofs.Common.{◌≡◌, Ok, refl, ap, ◌∙◌, rules}
+use Rattle.std.proofs.Common.{Ok, refl, ap, ◌∙◌}
 use Rattle.pins.specs.Kept.{kept}
 use Rattle.books.specs.Faithful.{places_of}
 use Rattle.books.proofs.Refusing.{place_taken}

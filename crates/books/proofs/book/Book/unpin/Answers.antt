@@ -1,5 +1,4 @@
-use Rattle.std.proofs.Common.{◌≡◌, sym, refl, ◌∙◌, inr, arith, rules}
-use Rattle.pins.specs.declared.pin.Pin.{Pin}
+use Rattle.std.proofs.Common.{sym, refl, ◌∙◌, inr, arith}
 use Rattle.pins.specs.Kept.{kept}
 use Rattle.pins.specs.Order.{without}
 use Rattle.books.specs.Faithful.{TruePin}

@@ -1,4 +1,4 @@
-use Rattle.std.proofs.Common.{◌≡◌, vec_items, sym, refl, ap, ◌∙◌, rules}
+use Rattle.std.proofs.Common.{vec_items, refl, ◌∙◌}
 use Rattle.books.specs.Plain.{opened, final}
 use Rattle.books.proofs.StepLaws.{each_put_upsets, opened_follows, replayed, end_true}
 use Rattle.books.proofs.FindLaws.{find_as_look, short_end}

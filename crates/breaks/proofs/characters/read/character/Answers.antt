@@ -1,7 +1,6 @@
-use Rattle.std.proofs.Common.{◌≡◌, List, length, drop, sym, ap, ◌∙◌, arith}
+use Rattle.std.proofs.Common.{◌≡◌, drop, ap, arith}
 use Rattle.tables.specs.Meaning.{bytes_of}
 use Rattle.rules.proofs.Lawful.{answers}
-use Rattle.breaks.specs.Chars.{Char}
 use Rattle.breaks.specs.Meaning.{characters, first_of}
 use Rattle.breaks.proofs.characters.read.character.Goals as goal
 

@@ -1,4 +1,4 @@
-use Rattle.std.proofs.Common.{◌≡◌, ℕ, ◌+◌, ◌<◌, ◌≤◌, List, ◌∷◌, length, get_or, drop, sym, ap, ◌∙◌, subst, arith}
+use Rattle.std.proofs.Common.{ℕ, ◌+◌, ◌<◌, ◌∷◌, length, get_or, drop, sym, ap, ◌∙◌, subst, arith}
 use Rattle.refusals.specs.declared.Direction.TheVariants.{Forward}
 use Rattle.tables.specs.Layout.{classes}
 use Rattle.tables.specs.Classes.{leads, one_class, two_class}
@@ -6,7 +6,7 @@ use Rattle.tables.specs.Meaning.{bytes_of}
 use Rattle.tables.proofs.Kept.{table_passes}
 use Rattle.tables.proofs.Tabled.{classes_low, list_passes}
 use Rattle.tables.proofs.Classed.{one_low, two_low}
-use Rattle.breaks.specs.Chars.{Char, char, chars}
+use Rattle.breaks.specs.Chars.{char, chars}
 use Rattle.breaks.specs.CharLaws.{read_one, read_two, read_short}
 use Rattle.breaks.proofs.characters.read.character_at.Goals as goal
 

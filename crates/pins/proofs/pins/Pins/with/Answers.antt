@@ -1,6 +1,6 @@
-use Rattle.std.proofs.Common.{◌≡◌, ℕ, ◌+◌, ◌<◌, ◌≤◌, length, get_or, take, sym, refl, ◌∙◌, arith, rules}
+use Rattle.std.proofs.Common.{◌≡◌, ℕ, ◌+◌, take, sym, refl, ◌∙◌, arith, rules}
 use Rattle.std.proofs.lemmas.List.{length-take, length-take-le}
-use Rattle.pins.specs.Order.{insert, nought}
+use Rattle.pins.specs.Order.{insert}
 use Rattle.pins.specs.Kept.{kept}
 use Rattle.pins.proofs.Rising.{there, nowhere, put_again, put_new, rising_insert, T_true, true_T}
 use Rattle.pins.proofs.pins.Pins.with.Goals as goal

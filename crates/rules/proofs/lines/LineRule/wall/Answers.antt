@@ -1,4 +1,4 @@
-use Rattle.std.proofs.Common.{◌≡◌, arith, rules}
+use Rattle.std.proofs.Common.{arith, rules}
 use Rattle.rules.specs.Answers.{wall_at}
 use Rattle.rules.specs.Lines.{line_parts}
 use Rattle.rules.specs.Cuts.{last_take}

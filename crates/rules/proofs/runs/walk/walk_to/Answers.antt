@@ -1,4 +1,4 @@
-use Rattle.std.proofs.Common.{◌≡◌, ◌+◌, ◌≤◌, arith}
+use Rattle.std.proofs.Common.{arith}
 use Rattle.rules.proofs.RunLaws.{later_more, later_first, walk_ends, walk_goes}
 use Rattle.rules.proofs.runs.walk.walk_to.Goals as goal
 

@@ -1,4 +1,4 @@
-use Rattle.std.proofs.Common.{◌≡◌, ℕ, ◌+◌, ◌-◌, ◌<◌, ◌≤◌, List, length, take, drop, Some, sym, ap, ◌∙◌, arith, below_more}
+use Rattle.std.proofs.Common.{◌≡◌, ℕ, ◌+◌, ◌-◌, ◌≤◌, List, length, take, drop, Some, sym, ap, ◌∙◌, arith, below_more}
 use Rattle.refusals.specs.declared.Refusal.TheVariants.{ClassWrong}
 use Rattle.tables.specs.Words.{byte}
 use Rattle.tables.specs.Layout.{class_table}

@@ -1,8 +1,8 @@
-use Rattle.std.proofs.Common.{◌≡◌, ℕ, ◌+◌, ◌-◌, ◌≤◌, Bool, true, false, ◌&&◌, List, length, take, drop, pos, nat_abs, sym, ap, ◌∙◌, arith}
+use Rattle.std.proofs.Common.{◌≡◌, ℕ, ◌+◌, ◌-◌, ◌≤◌, Bool, true, ◌&&◌, List, length, take, drop, pos, nat_abs, sym, ap, ◌∙◌, arith}
 use Rattle.std.proofs.lemmas.Bool.{leb-true}
 use Rattle.tables.specs.Words.{byte}
 use Rattle.tables.specs.Layout.{fits, auxiliary}
-use Rattle.tables.specs.Classes.{is_class, every, row_start, even_class, even_sound}
+use Rattle.tables.specs.Classes.{is_class, every, row_start, even_class}
 use Rattle.tables.proofs.Heads.{head}
 use Rattle.tables.proofs.Slices.{part_size, part_is}
 use Rattle.tables.proofs.checks.classes.even_is_sound.Goals as goal

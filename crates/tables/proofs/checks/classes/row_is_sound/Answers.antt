@@ -1,4 +1,4 @@
-use Rattle.std.proofs.Common.{◌≡◌, ℕ, sym, ◌∙◌, arith, below_more}
+use Rattle.std.proofs.Common.{sym, ◌∙◌, arith, below_more}
 use Rattle.tables.specs.Words.{byte}
 use Rattle.tables.specs.Classes.{is_class}
 use Rattle.tables.proofs.Everys.{every_passes, every_fails}

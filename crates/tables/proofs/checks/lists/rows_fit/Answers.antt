@@ -1,5 +1,5 @@
 use Rattle.std.proofs.Common.{◌≡◌, ℕ, ◌+◌, leb, ap, ◌∙◌, arith}
-use Rattle.tables.specs.Layout.{size, code_place, code_count}
+use Rattle.tables.specs.Layout.{code_place, code_count}
 use Rattle.tables.proofs.checks.lists.rows_fit.Goals as goal
 
 pub returns : goal.returns

@@ -1,4 +1,4 @@
-use Rattle.std.proofs.Common.{◌≡◌, ℕ, ◌+◌, Bool, ap, ◌∙◌, arith}
+use Rattle.std.proofs.Common.{◌≡◌, ℕ, ◌+◌, ap, ◌∙◌, arith}
 use Rattle.tables.specs.Words.{word, within}
 use Rattle.tables.specs.Layout.{state_table}
 use Rattle.tables.proofs.checks.lists.word_0_fits.Goals as goal

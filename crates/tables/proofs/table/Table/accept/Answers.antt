@@ -1,4 +1,4 @@
-use Rattle.std.proofs.Common.{◌≡◌, ℕ, List, is_some, vec_items, ap, subst}
+use Rattle.std.proofs.Common.{ℕ, List, is_some, vec_items, ap, subst}
 use Rattle.tables.specs.Verdicts.{Judged}
 use Rattle.tables.proofs.table.Table.accept.Goals as goal
 

@@ -1,7 +1,6 @@
-use Rattle.std.proofs.Common.{◌≡◌, ℕ, ◌+◌, ◌<◌, ◌≤◌, length, get_or, sym, ap, ◌∙◌, arith}
+use Rattle.std.proofs.Common.{ℕ, ◌+◌, ◌<◌, length, get_or, sym, ap, ◌∙◌, arith}
 use Rattle.std.proofs.lemmas.List.{get_or_read}
 use Rattle.tables.specs.Words.{signed8}
-use Rattle.tables.specs.Layout.{class_table}
 use Rattle.tables.specs.Meaning.{bytes_of}
 use Rattle.tables.specs.declared.table.Table.{Table}
 use Rattle.tables.proofs.Classed.{class_table_in, entry_at}

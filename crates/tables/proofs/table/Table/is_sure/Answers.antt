@@ -1,4 +1,4 @@
-use Rattle.std.proofs.Common.{◌≡◌, ℕ, true, sym, ◌∙◌, rules}
+use Rattle.std.proofs.Common.{◌≡◌, sym, ◌∙◌, rules}
 use Rattle.automata.specs.Sure.{holds}
 use Rattle.tables.proofs.table.Table.is_sure.Goals as goal
 

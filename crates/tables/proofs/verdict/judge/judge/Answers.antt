@@ -1,4 +1,4 @@
-use Rattle.std.proofs.Common.{◌≡◌, ℕ, ◌+◌, ◌-◌, ◌*◌, ◌<◌, ◌≤◌, Bool, true, false, List, Decides, sym, ap, ◌∙◌, subst, inl, inr, arith}
+use Rattle.std.proofs.Common.{◌≡◌, ℕ, ◌+◌, ◌-◌, Decides, sym, ap, subst, inr, arith}
 use Rattle.std.proofs.lemmas.Nat.{mul-le}
 use Rattle.refusals.specs.declared.Direction.TheVariants.{Forward}
 use Rattle.refusals.specs.declared.Refusal.TheVariants.{NonAdvancing}
@@ -7,8 +7,7 @@ use Rattle.automata.specs.Stuck.{Stuck}
 use Rattle.automata.specs.Sure.{Sure, holds}
 use Rattle.automata.specs.Parts.{code_of}
 use Rattle.automata.proofs.Stucks.{never_stuck}
-use Rattle.tables.specs.Layout.{states, classes, machine, code_place}
-use Rattle.tables.specs.Verdicts.{StuckFirst, Sound, SureBits}
+use Rattle.tables.specs.Layout.{classes, machine, code_place}
 use Rattle.tables.proofs.Tabled.{header_passes}
 use Rattle.tables.proofs.verdict.judge.judge.Goals as goal
 

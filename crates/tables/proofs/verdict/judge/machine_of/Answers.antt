@@ -1,8 +1,8 @@
-use Rattle.std.proofs.Common.{◌≡◌, ℕ, ◌-◌, ◌*◌, ◌<◌, ◌≤◌, List, length, get_or, sym, ap, ◌∙◌, subst, arith}
+use Rattle.std.proofs.Common.{◌≡◌, ℕ, ◌-◌, ◌*◌, ◌<◌, List, length, get_or, sym, ap, ◌∙◌, subst, arith}
 use Rattle.automata.specs.Machine.{code_at, next}
 use Rattle.refusals.specs.declared.Direction.{Direction}
 use Rattle.refusals.specs.declared.Direction.TheVariants.{Forward}
-use Rattle.tables.specs.Layout.{states, classes, codes, code_place, code_count}
+use Rattle.tables.specs.Layout.{states, classes, codes, code_count}
 use Rattle.tables.specs.Checks.{Passes, checks}
 use Rattle.tables.proofs.Heads.{head}
 use Rattle.tables.proofs.Tabled.{listed, classes_low, classes_high, header_passes, list_passes, codes_named}

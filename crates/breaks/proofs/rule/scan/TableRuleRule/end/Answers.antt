@@ -1,14 +1,14 @@
-use Rattle.std.proofs.Common.{◌≡◌, ℕ, ◌+◌, ◌<◌, ◌≤◌, List, ◌∷◌, length, drop, sym, ap, ◌∙◌, arith}
+use Rattle.std.proofs.Common.{◌≡◌, ℕ, ◌+◌, drop, sym, ap, ◌∙◌, arith}
 use Rattle.refusals.specs.declared.Direction.TheVariants.{Forward}
 use Rattle.automata.specs.Machine.{next}
 use Rattle.rules.proofs.Lawful.{answers}
-use Rattle.tables.specs.Layout.{machine, states}
+use Rattle.tables.specs.Layout.{machine}
 use Rattle.tables.specs.Classes.{leads, one_class, two_class}
 use Rattle.tables.specs.Meaning.{bytes_of}
 use Rattle.tables.proofs.Kept.{table_passes}
 use Rattle.tables.proofs.Tabled.{listed, list_passes}
-use Rattle.breaks.specs.Chars.{Char, char}
-use Rattle.breaks.specs.Meaning.{characters, run_of}
+use Rattle.breaks.specs.Chars.{char}
+use Rattle.breaks.specs.Meaning.{characters}
 use Rattle.breaks.specs.CharLaws.{read_none}
 use Rattle.breaks.specs.ScanLaws.{go, go_run, go_exits, go_on, mark_at, mark_here, mark_kept}
 use Rattle.breaks.proofs.rule.scan.TableRuleRule.end.Goals as goal

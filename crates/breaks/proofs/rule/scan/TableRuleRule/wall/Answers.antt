@@ -1,10 +1,10 @@
-use Rattle.std.proofs.Common.{◌≡◌, ℕ, ◌+◌, ◌<◌, ◌≤◌, Bool, false, List, ◌∷◌, length, take, drop, sym, ap, ◌∙◌, arith}
+use Rattle.std.proofs.Common.{◌≡◌, ℕ, ◌+◌, ◌<◌, ◌≤◌, Bool, false, List, length, drop, sym, ◌∙◌, arith}
 use Rattle.automata.specs.Sure.{holds}
 use Rattle.rules.specs.Answers.{wall_at}
 use Rattle.rules.proofs.Lawful.{answers, wall_past}
 use Rattle.tables.specs.Classes.{leads, one_class, two_class}
 use Rattle.tables.specs.Meaning.{bytes_of}
-use Rattle.breaks.specs.Chars.{Char, char}
+use Rattle.breaks.specs.Chars.{char}
 use Rattle.breaks.specs.Tables.{parted}
 use Rattle.breaks.specs.Meaning.{characters, parts_of}
 use Rattle.breaks.specs.declared.rule.TableRule.{TableRule}
