@@ -1,6 +1,6 @@
 -- What pin and unpin answer and leave, beside the plain book.
 use Rattle.std.proofs.Common.{◌≡◌, ℕ, ◌-◌, ◌<◌, ◌≤◌, Bool, true, cond, leb, List, length, drop, is_ok, Some, None, Ok, Err, Result, sym, refl, ap, ◌∙◌, subst, arith, length-drop}
-use Rattle.std.specs.List.{AllByRecursion as All}
+use Rattle.std.specs.List.{AllByRecursion}
 use Rattle.std.proofs.lemmas.Bool.{cond-true, cond-false, and_from, lt-ltb, le-ltb, lt-leb}
 use Rattle.std.proofs.lemmas.List.{length-map}
 use Rattle.refusals.specs.declared.Refusal.{Refusal}
@@ -34,16 +34,16 @@ plainly text qs = record { bytes = text; places = places_of qs }
 
 -- a book that keeps other true pins over the same text
 pub follows_by : {R : Type 0} (run : List ℕ → ℕ) (parts : List ℕ → List ℕ → Bool) (c : Book R) (new : List ℕ) (qs : List Pin) (plain : Plain)
-    → length new ≡ c.pins.size → kept c.pins ≡ qs → All (TruePin run parts new) qs → record { bytes = new; places = places_of qs } ≡ plain
+    → length new ≡ c.pins.size → kept c.pins ≡ qs → AllByRecursion (TruePin run parts new) qs → record { bytes = new; places = places_of qs } ≡ plain
     → Follows run parts c new plain
 follows_by run parts c new qs plain long keeps a is =
     record {
-      stays_faithful = record { is_long = long; are_true = subst (All (TruePin run parts new)) (sym keeps) a };
+      stays_faithful = record { is_long = long; are_true = subst (AllByRecursion (TruePin run parts new)) (sym keeps) a };
       is_plain = ap (plainly new) keeps ∙ is;
     }
 
 module _ (run : List ℕ → ℕ) (b : Bounded run) (parts : List ℕ → List ℕ → Bool)
-    (joins : (before after : List ℕ) → parts before after ≡ true → Joined run before after) (text : List ℕ) (qs : List Pin) (a : All (TruePin run parts text) qs) where
+    (joins : (before after : List ℕ) → parts before after ≡ true → Joined run before after) (text : List ℕ) (qs : List Pin) (a : AllByRecursion (TruePin run parts text) qs) where
   -- at a wall as many runs end at or before it as start below it
   number_there : (w : ℕ) → w < length text → wall_at parts text w ≡ true → number_over w (cutting run text) ≡ number_at run text w
   number_there w h e =
@@ -107,7 +107,7 @@ module _ (run : List ℕ → ℕ) (b : Bounded run) (parts : List ℕ → List �
           ∙ sym (left_ok _ p _ _ (pinned_again p e))
 
       pub left_new : (n : ℕ) → None ≡ pin_at w qs → length qs < 64 → n ≡ number_over w (cutting run text)
-          → (plainly text (insert (a_pin w n) qs) ≡ after_pin run parts (plainly text qs) (length text) place) × All (TruePin run parts text) (insert (a_pin w n) qs)
+          → (plainly text (insert (a_pin w n) qs) ≡ after_pin run parts (plainly text qs) (length text) place) × AllByRecursion (TruePin run parts text) (insert (a_pin w n) qs)
       left_new n e few number =
           let absent = at_none w qs e in
           let places : places_of (insert (a_pin w n) qs) ≡ added (nearest_wall parts text place) (places_of qs) =

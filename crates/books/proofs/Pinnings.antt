@@ -1,6 +1,6 @@
 -- Pins put in and taken out, beside the list of their places.
 use Rattle.std.proofs.Common.{◌≡◌, ℕ, true, false, cond, eqb, ltb, List, [], ◌∷◌, Some, None, sym, refl, ap, ◌∙◌, subst, ⊎_elim, arith}
-use Rattle.std.specs.List.{AllByRecursion as All}
+use Rattle.std.specs.List.{AllByRecursion}
 use Rattle.std.proofs.lemmas.Bool.{cond-true, cond-false, cond_both, cases_Bool, eqb-true, true≢false}
 use Rattle.pins.specs.declared.pin.Pin.{Pin}
 use Rattle.pins.specs.Order.{insert, without, pin_at}
@@ -8,7 +8,7 @@ use Rattle.books.specs.Plain.{is_in, placed, taken_out}
 use Rattle.books.specs.Faithful.{places_of}
 
 -- the pin at a place is one of the pins, and is there
-pub at_some : (P : Pin → Type 0) (place : ℕ) (qs : List Pin) (p : Pin) → All P qs → Some p ≡ pin_at place qs → P p × (p.place ≡ place) × (is_in place (places_of qs) ≡ true)
+pub at_some : (P : Pin → Type 0) (place : ℕ) (qs : List Pin) (p : Pin) → AllByRecursion P qs → Some p ≡ pin_at place qs → P p × (p.place ≡ place) × (is_in place (places_of qs) ≡ true)
 at_some P place [] p a e = absurd (let z : ◌≡◌ {A = ℕ} 0 1 = cc in omega arith)
 at_some P place (q ∷ qs) p a e =
     ⊎_elim
@@ -24,7 +24,7 @@ at_some P place (q ∷ qs) p a e =
 pub at_there : (place : ℕ) (qs : List Pin) (p : Pin) → Some p ≡ pin_at place qs → (p.place ≡ place) × (is_in place (places_of qs) ≡ true)
 at_there place qs p e = let one = at_some (λ _. Unit {0}) place qs p (every qs) e in (one.1, one.2)
   where
-    every : (qs : List Pin) → All (λ (_ : Pin). Unit {0}) qs
+    every : (qs : List Pin) → AllByRecursion (λ (_ : Pin). Unit {0}) qs
     every [] = tt
     every (q ∷ qs) = (tt, every qs)
 
@@ -58,13 +58,13 @@ places_without place (q ∷ qs) =
     (λ (no : eqb q.place place ≡ false). ap places_of (cond-false _ _ _ no) ∙ ap (λ (l : List ℕ). q.place ∷ l) (places_without place qs) ∙ sym (cond-false _ _ _ no))
     (cases_Bool (eqb q.place place))
 
-pub all_insert : (P : Pin → Type 0) (p : Pin) (qs : List Pin) → P p → All P qs → All P (insert p qs)
+pub all_insert : (P : Pin → Type 0) (p : Pin) (qs : List Pin) → P p → AllByRecursion P qs → AllByRecursion P (insert p qs)
 all_insert P p [] h a = (h, tt)
 all_insert P p (q ∷ qs) h a =
-    cond_both (ltb q.place p.place) (q ∷ insert p qs) (cond (eqb q.place p.place) (q ∷ qs) (p ∷ q ∷ qs)) (All P)
+    cond_both (ltb q.place p.place) (q ∷ insert p qs) (cond (eqb q.place p.place) (q ∷ qs) (p ∷ q ∷ qs)) (AllByRecursion P)
     (λ e. (a.0, all_insert P p qs h a.1))
-    (λ e. cond_both (eqb q.place p.place) (q ∷ qs) (p ∷ q ∷ qs) (All P) (λ e. a) (λ e. (h, a)))
+    (λ e. cond_both (eqb q.place p.place) (q ∷ qs) (p ∷ q ∷ qs) (AllByRecursion P) (λ e. a) (λ e. (h, a)))
 
-pub all_without : (P : Pin → Type 0) (place : ℕ) (qs : List Pin) → All P qs → All P (without place qs)
+pub all_without : (P : Pin → Type 0) (place : ℕ) (qs : List Pin) → AllByRecursion P qs → AllByRecursion P (without place qs)
 all_without P place [] a = tt
-all_without P place (q ∷ qs) a = cond_both (eqb q.place place) qs (q ∷ without place qs) (All P) (λ e. a.1) (λ e. (a.0, all_without P place qs a.1))
+all_without P place (q ∷ qs) a = cond_both (eqb q.place place) qs (q ∷ without place qs) (AllByRecursion P) (λ e. a.1) (λ e. (a.0, all_without P place qs a.1))

@@ -1,6 +1,6 @@
 -- What put answers and leaves, beside the plain book.
 use Rattle.std.proofs.Common.{◌≡◌, ℕ, zero, suc, ◌+◌, ◌-◌, ◌<◌, Bool, true, false, cond, ◌&&◌, List, length, set, neg_ℤ, Ok, sym, refl, ap, ◌∙◌, subst, arith}
-use Rattle.std.specs.List.{AllByRecursion as All}
+use Rattle.std.specs.List.{AllByRecursion}
 use Rattle.std.proofs.lemmas.List.{length-set}
 use Rattle.std.proofs.lemmas.Int.{ints}
 use Rattle.rules.specs.Cutting.{Bounded, Joined}
@@ -67,7 +67,7 @@ module _ (run : List ℕ → ℕ) (b : Bounded run) (parts : List ℕ → List �
   upset_by_it places c e = subst (Upset run parts xs (set xs p v) p) (sym e) (upset_is places)
 
   -- the pins that put leaves are true in the new text, and the plain book's
-  follows_set : {R : Type 0} (qs : List Pin) (book : Book R) → All (TruePin run parts xs) qs → length xs ≡ book.pins.size
+  follows_set : {R : Type 0} (qs : List Pin) (book : Book R) → AllByRecursion (TruePin run parts xs) qs → length xs ≡ book.pins.size
       → kept book.pins ≡ renumbered parts (set xs p v) (window_end parts xs (set xs p v) p) (gained run xs (set xs p v)) qs
       → Follows run parts book (set xs p v) (after_put run parts (record { bytes = xs; places = places_of qs }) (length xs) p v)
   follows_set qs book a long keeps =
@@ -78,7 +78,7 @@ module _ (run : List ℕ → ℕ) (b : Bounded run) (parts : List ℕ → List �
       (all_true_after run b parts joins xs p v (window_begin parts xs (set xs p v) p) (window_end parts xs (set xs p v) p) (window_is parts xs (set xs p v) p inside) qs a)
       (ap (λ (l : List ℕ). record { bytes = set xs p v; places = l }) (places_renumbered _ _ parts (set xs p v) qs) ∙ sym (left_ok _ (upset_by run parts plain p v) _ _ answered))
 
-  pub follows_put : {R : Type 0} (qs : List Pin) (book : Book R) (zs : List ℕ) → zs ≡ set xs p v → All (TruePin run parts xs) qs → length xs ≡ book.pins.size
+  pub follows_put : {R : Type 0} (qs : List Pin) (book : Book R) (zs : List ℕ) → zs ≡ set xs p v → AllByRecursion (TruePin run parts xs) qs → length xs ≡ book.pins.size
       → kept book.pins ≡ renumbered parts (set xs p v) (window_end parts xs (set xs p v) p) (gained run xs (set xs p v)) qs
       → Follows run parts book zs (after_put run parts (record { bytes = xs; places = places_of qs }) (length xs) p v)
   follows_put qs book zs e a long keeps =

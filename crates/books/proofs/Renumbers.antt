@@ -1,6 +1,6 @@
 -- The pins after a written byte.
 use Rattle.std.proofs.Common.{◌≡◌, ℕ, zero, suc, ◌+◌, ◌-◌, ◌<◌, ◌≤◌, min, Bool, true, false, cond, not, ◌&&◌, ltb, leb, List, [], ◌∷◌, ◌++◌, map, length, get_or, take, set, ℤ, pos, negsuc, ◌+ℤ◌, filter, sym, refl, ap, ◌∙◌, ⊎_elim, arith}
-use Rattle.std.specs.List.{AllByRecursion as All}
+use Rattle.std.specs.List.{AllByRecursion}
 use Rattle.std.proofs.lemmas.List.Elements.{filter_more}
 use Rattle.std.proofs.lemmas.List.Filters.{length-filter_both}
 use Rattle.std.proofs.lemmas.List.{map-append, append-nil, length-map, length-take, length-set}
@@ -169,12 +169,12 @@ module _ (run : List ℕ → ℕ) (b : Bounded run) (parts : List ℕ → List �
       ∙ ap (held q.place) (sym late) ∙ top ∙ sym after)
       (cases_lt q.place to)
 
-  pub all_true_after : (qs : List Pin) → All (TruePin run parts xs) qs → All (TruePin run parts (set xs p v)) (renumbered parts (set xs p v) to (gained run xs (set xs p v)) qs)
+  pub all_true_after : (qs : List Pin) → AllByRecursion (TruePin run parts xs) qs → AllByRecursion (TruePin run parts (set xs p v)) (renumbered parts (set xs p v) to (gained run xs (set xs p v)) qs)
   all_true_after [] a = tt
   all_true_after (q ∷ qs) a =
       let rest = all_true_after qs a.1 in
       cond_both (stands parts (set xs p v) q.place) (q ∷ standing parts (set xs p v) qs) (standing parts (set xs p v) qs)
-      (λ (l : List Pin). All (TruePin run parts (set xs p v)) (map (moved to (gained run xs (set xs p v))) l))
+      (λ (l : List Pin). AllByRecursion (TruePin run parts (set xs p v)) (map (moved to (gained run xs (set xs p v))) l))
       (λ new.
       let there = moved_place to (gained run xs (set xs p v)) q in
       (record { is_wall = ap (stands parts (set xs p v)) there ∙ new; is_numbered = true_after q a.0 new ∙ ap (number_at run (set xs p v)) (sym there) }, rest))

@@ -1,6 +1,6 @@
 -- A list of steps, one step further.
 use Rattle.std.proofs.Common.{◌≡◌, ℕ, ◌+◌, ◌<◌, ◌≤◌, Bool, true, false, cond, eqb, ltb, List, [], ◌∷◌, ◌++◌, length, get_or, drop, set, None, Ok, Err, sym, ap, ◌∙◌, subst, ⊎_elim, arith}
-use Rattle.std.specs.List.{AllByRecursion as All}
+use Rattle.std.specs.List.{AllByRecursion}
 use Rattle.std.proofs.lemmas.List.{at_drop_more, at_drop_all, append_assoc, append-nil}
 use Rattle.std.proofs.lemmas.Bool.{cond-true, cond-false, cases_Bool, eqb-true, ltb-true}
 use Rattle.rules.specs.Cutting.{Bounded, Joined}
@@ -107,7 +107,7 @@ pub opened_follows : {R : Type 0} (run : List ℕ → ℕ) (parts : List ℕ →
     → Follows run parts book text (opened text)
 opened_follows run parts book text long empty =
     record {
-      stays_faithful = record { is_long = sym long; are_true = subst (All (TruePin run parts text)) (sym empty) tt };
+      stays_faithful = record { is_long = sym long; are_true = subst (AllByRecursion (TruePin run parts text)) (sym empty) tt };
       is_plain = ap (λ (qs : List Pin). record { bytes = text; places = places_of qs }) empty;
     }
 

@@ -1,6 +1,6 @@
 -- Walking from a true pin.
 use Rattle.std.proofs.Common.{◌≡◌, ℕ, ◌+◌, ◌-◌, ◌<◌, ◌≤◌, Bool, true, ltb, List, length, get_or, take, drop, Some, None, Ok, Err, Option, unwrap_or, sym, refl, ap, ◌∙◌, subst, arith, length-append}
-use Rattle.std.specs.List.{AllByRecursion as All}
+use Rattle.std.specs.List.{AllByRecursion}
 use Rattle.std.proofs.lemmas.Bool.{and_parts, ltb-true, cond-true, cond-false, lt-ltb, le-ltb}
 use Rattle.std.proofs.lemmas.List.{length-map, get_or-map}
 use Rattle.std.proofs.ByRecursion.{All-get_or}
@@ -56,7 +56,7 @@ module _ (run : List ℕ → ℕ) (b : Bounded run) (parts : List ℕ → List �
       }
 
   -- the pin that was found, or the text's start
-  pub start_found : (test : Pin → Bool) (qs : List Pin) → All (TruePin run parts text) qs → (r : Option Pin) → r ≡ last_by test qs → (q : Pin) → q ≡ unwrap_or r nought → Start q
+  pub start_found : (test : Pin → Bool) (qs : List Pin) → AllByRecursion (TruePin run parts text) qs → (r : Option Pin) → r ≡ last_by test qs → (q : Pin) → q ≡ unwrap_or r nought → Start q
   start_found test qs a None e q is = subst Start (sym is) first_start
   start_found test qs a (Some p) e q is = subst Start (sym is) (true_start p (last_of (TruePin run parts text) test qs p a e).0)
 
@@ -103,7 +103,7 @@ module _ (run : List ℕ → ℕ) (b : Bounded run) (parts : List ℕ → List �
       sym (cond-false _ _ _ (le-ltb number (runs run text) many)) ∙ length_taken _ (length text) (length text) (length text) refl refl
 
   -- the pin of an index
-  pub read_some : (qs : List Pin) (k : ℕ) (q : Pin) → All (TruePin run parts text) qs → k < length qs → q ≡ get_or qs k nought
+  pub read_some : (qs : List Pin) (k : ℕ) (q : Pin) → AllByRecursion (TruePin run parts text) qs → k < length qs → q ≡ get_or qs k nought
       → Ok q ≡ read_answer run (record { bytes = text; places = places_of qs }) (length text) k
   read_some qs k q a h e =
       let true-one = All-get_or (TruePin run parts text) qs k nought h a in

@@ -1,6 +1,6 @@
 -- A book beside its text.
 use Rattle.std.specs.Prelude.{◌≡◌, ℕ, Bool, true, cond, List, map, length}
-use Rattle.std.specs.List.{AllByRecursion as All}
+use Rattle.std.specs.List.{AllByRecursion}
 use Rattle.pins.specs.declared.pin.Pin.{Pin}
 use Rattle.pins.specs.Kept.{kept}
 use Rattle.pins.specs.Order.{insert}
@@ -22,7 +22,7 @@ pub record TruePin (run : List ℕ → ℕ) (parts : List ℕ → List ℕ → B
 -- a book is faithful to a text: the text is as long as the book's, and every pin is a true one
 pub record Faithful {R : Type 0} (run : List ℕ → ℕ) (parts : List ℕ → List ℕ → Bool) (b : Book R) (text : List ℕ) : Type 0 where
   pub is_long : length text ≡ b.pins.size
-  pub are_true : All (TruePin run parts text) (kept b.pins)
+  pub are_true : AllByRecursion (TruePin run parts text) (kept b.pins)
 
 -- after a call the book is faithful to the text, and is what the plain book is
 pub record Follows {R : Type 0} (run : List ℕ → ℕ) (parts : List ℕ → List ℕ → Bool) (b : Book R) (text : List ℕ) (plain : Plain) : Type 0 where

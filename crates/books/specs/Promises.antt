@@ -1,6 +1,6 @@
 -- What is promised of a list of steps that is carried out on a book.
 use Rattle.std.specs.Prelude.{◌≡◌, ℕ, ◌<◌, ◌≤◌, Bool, List, [], ◌∷◌, length, Ok, slice_set}
-use Rattle.std.specs.List.{AllByRecursion as All}
+use Rattle.std.specs.List.{AllByRecursion}
 use Rattle.refusals.specs.declared.Refusal.TheVariants.{TextTooLong}
 use Rattle.pins.specs.declared.pin.Pin.{Pin}
 use Rattle.rules.specs.Answers.{about_place}
@@ -53,7 +53,7 @@ EachPutUpsets run parts b (s ∷ ss) =
 -- the pins are the plain book's places, each a wall of the text with its true number
 pub record TruePins (run : List ℕ → ℕ) (parts : List ℕ → List ℕ → Bool) (text places : List ℕ) (pins : List Pin) : Type 0 where
   pub at_its_places : places_of pins ≡ places
-  pub are_true : All (TruePin run parts text) pins
+  pub are_true : AllByRecursion (TruePin run parts text) pins
 
 -- nothing was begun: the text is too long, or there is no memory for the answers
 abbrev pub Halted : List ℕ → Halt → Type 0

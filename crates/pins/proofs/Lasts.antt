@@ -1,6 +1,6 @@
 -- The last pin that passes a test.
 use Rattle.std.proofs.Common.{◌≡◌, ℕ, ◌+◌, ◌-◌, ◌<◌, ◌≤◌, Bool, true, false, cond, List, [], ◌∷◌, ◌++◌, length, get_or, take, Some, None, Option, sym, refl, ap, ◌∙◌, subst, ⊎_elim, arith}
-use Rattle.std.specs.List.{AllByRecursion as All}
+use Rattle.std.specs.List.{AllByRecursion}
 use Rattle.std.proofs.lemmas.List.{take_more}
 use Rattle.std.proofs.lemmas.Bool.{cond-true, cond-false, cond_both, cases_Bool}
 use Rattle.pins.specs.declared.pin.Pin.{Pin}
@@ -26,7 +26,7 @@ module _ (test : Pin → Bool) (es : List Pin) (k : ℕ) (some : 0 < k) (le : k 
   last_before e = sym (step ∙ cond-false _ _ _ e)
 
 -- it is one of the pins, and passes
-pub last_of : (P : Pin → Type 0) (test : Pin → Bool) (qs : List Pin) (p : Pin) → All P qs → Some p ≡ last_by test qs → P p × (test p ≡ true)
+pub last_of : (P : Pin → Type 0) (test : Pin → Bool) (qs : List Pin) (p : Pin) → AllByRecursion P qs → Some p ≡ last_by test qs → P p × (test p ≡ true)
 last_of P test [] p a e = absurd (let z : ◌≡◌ {A = ℕ} 0 1 = cc in omega arith)
 last_of P test (q ∷ qs) p a e = go (last_by test qs) (last_of P test qs p a.1) e
   where

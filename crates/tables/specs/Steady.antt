@@ -2,7 +2,7 @@
 use Rattle.std.specs.Prelude.{◌≡◌, ℕ, ◌≤◌, Bool, List, Result, MatchResult}
 use Rattle.refusals.specs.declared.Direction.TheVariants.{Backward}
 use Rattle.refusals.specs.declared.Refusal.{Refusal}
-use Rattle.refusals.specs.declared.Refusal.TheVariants.{Unsteady as refused-at}
+use Rattle.refusals.specs.declared.Refusal.TheVariants.{Unsteady as refused_at}
 use Rattle.automata.specs.Steady.{Unsteady}
 use Rattle.tables.specs.Layout.{classes, machine, code_place}
 use Rattle.tables.specs.Verdicts.{Tells}
@@ -23,4 +23,4 @@ UnsteadyFirst b k =
 -- the table is steady, or the place of the first such code is told
 abbrev pub SteadyChecked : {V : Type 0} → List ℕ → Result V Refusal → Type 0
 SteadyChecked b r =
-    MatchResult r (λ _. Steady b) (λ e. (k : ℕ) × UnsteadyFirst b k × (e ≡ refused-at (code_place b Backward k)))
+    MatchResult r (λ _. Steady b) (λ e. (k : ℕ) × UnsteadyFirst b k × (e ≡ refused_at (code_place b Backward k)))
