@@ -6,6 +6,7 @@ pub mod Slices
 pub mod Tabled
 pub mod Orders
 pub mod Counting
+pub mod Entering
 pub mod Classed
 pub mod Kept
 pub mod Steadies

@@ -1,8 +1,8 @@
 -- Numbers of a table that lie within limits.
-use Rattle.std.proofs.Common.{◌≡◌, ℕ, ◌+◌, ◌-◌, ◌<◌, ◌≤◌, true, false, List, ℤ, pos, negsuc, nat_abs, refl, ap, ◌∙◌, inl, inr, arith}
-use lib.Signed.{non_neg}
-use Rattle.std.proofs.lemmas.Bool.{and_parts, leb-true, false≢true, cond-true, cond-false, lt-ltb, le-ltb, cases_lt, both_ways}
-use Rattle.std.proofs.lemmas.Int.{ints}
+use Rattle.std.proofs.Common.{◌≡◌, ℕ, ◌+◌, ◌-◌, ◌<◌, ◌≤◌, true, false, List, ℤ, pos, negsuc, nat_abs, refl, ap, ◌∙◌, inl, inr, arith, w16, w32, SFits, to_z, of_z}
+use lib.Signed.{non_neg, le_z}
+use Rattle.std.proofs.lemmas.Bool.{and_parts, leb-true, false≢true, cond-true, cond-false, lt-ltb, le-ltb, le-leb, cases_lt, both_ways}
+use Rattle.std.proofs.lemmas.Int.{ints, to_z-of_z}
 use Rattle.tables.specs.Words.{signed8, within}
 use Rattle.tables.specs.Layout.{size, fits}
 
@@ -42,3 +42,12 @@ byte_negative x hi e =
       | inl l ↦ absurd (both_ways (non_neg (signed8 x)) e (ap non_neg (byte_above x l)))
       | inr g ↦ (g, ap nat_abs (byte_below x g hi) ∙ omega arith)
     ]
+
+-- the test `z >= 0` of a word read back from its bits
+pub ge0_whole : (z : ℤ) → SFits w16 z → le_z (pos 0) (to_z w16 (of_z w16 z)) ≡ non_neg z
+ge0_whole (pos n) f = ap (le_z (pos 0)) (to_z-of_z w16 (pos n) f) ∙ le-leb 0 n (omega arith)
+ge0_whole (negsuc n) f = ap (le_z (pos 0)) (to_z-of_z w16 (negsuc n) f)
+
+-- a place that fits comes back from its bits
+pub place_bits : (n : ℕ) → n < 2147483648 → to_z w32 n ≡ pos n
+place_bits n h = omega (arith, ints)

@@ -1,9 +1,9 @@
 -- The checks of a table, one list after the other.
-use Rattle.std.proofs.Common.{◌≡◌, ℕ, List, Some, Result, ◌∙◌}
+use Rattle.std.proofs.Common.{◌≡◌, ℕ, List, Some, ◌∙◌}
 use Rattle.refusals.specs.declared.Direction.TheVariants.{Forward, Backward}
 use Rattle.refusals.specs.declared.Refusal.{Refusal}
-use Rattle.tables.specs.Checks.{first_failed, Passes, Checked, checks, header_checks, list_checks, class_checks, code_checks}
-use Rattle.tables.proofs.Passing.{append_passes, append_fails, checked_same}
+use Rattle.tables.specs.Checks.{first_failed, Passes, checks, header_checks, list_checks, class_checks, code_checks}
+use Rattle.tables.proofs.Passing.{append_passes, append_fails}
 use Rattle.tables.proofs.Tabled.{from_forward, from_backward, from_classes, from_codes}
 
 module _ (b : List ℕ) where
@@ -40,6 +40,12 @@ module _ (b : List ℕ) where
           pub forward_codes_fail : (e : Refusal) → first_failed (code_checks b Forward) ≡ Some e → first_failed (checks b) ≡ Some e
           forward_codes_fail e f = at_codes ∙ append_fails (code_checks b Forward) (code_checks b Backward) e f
 
-          pub last_checked : {V : Type 0} → Passes (code_checks b Forward) → (r : Result V Refusal) → Checked (code_checks b Backward) r → Checked (checks b) r
-          last_checked p =
-              checked_same (checks b) (code_checks b Backward) (at_codes ∙ append_passes (code_checks b Forward) (code_checks b Backward) p)
+          module _ (codes : Passes (code_checks b Forward)) where
+            last_codes : first_failed (checks b) ≡ first_failed (code_checks b Backward)
+            last_codes = at_codes ∙ append_passes (code_checks b Forward) (code_checks b Backward) codes
+
+            pub backward_codes_fail : (e : Refusal) → first_failed (code_checks b Backward) ≡ Some e → first_failed (checks b) ≡ Some e
+            backward_codes_fail e f = last_codes ∙ f
+
+            pub all_pass : Passes (code_checks b Backward) → Passes (checks b)
+            all_pass p = last_codes ∙ p

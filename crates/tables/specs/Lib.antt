@@ -1,6 +1,7 @@
 pub mod Words
 pub mod Layout
 pub mod Classes
+pub mod Entries
 pub mod Checks
 pub mod Verdicts
 pub mod Steady

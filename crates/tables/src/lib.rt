@@ -1,10 +1,12 @@
 //! Break tables: their format, and which of them are accepted.
 #![tactic(auto)]
 
-mod checks;
+mod entry;
+mod head;
 mod layout;
-mod pairs;
+mod lead;
 mod parts;
+mod passed;
 pub mod table;
 mod verdict;
 mod words;

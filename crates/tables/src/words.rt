@@ -1,13 +1,5 @@
-ghost use Rattle.std.specs.Prelude.{◌≡◌, ℕ, ◌+◌, ◌<◌, ◌≤◌, length, ℤ, unsigned_abs};
-ghost use Rattle.std.specs.Int.Signed.{non_neg};
+ghost use Rattle.std.specs.Prelude.{◌≡◌, ℕ, ◌+◌, ◌≤◌, length, ℤ, unsigned_abs};
 ghost use Rattle.tables.specs.Words.{signed8, word, within};
-
-/// The value of a byte, signed.
-pub fn signed(byte: u8) -> i16
-    ensures { result ≡ signed8 byte }
-{
-    byte.cast_signed() as i16
-}
 
 /// The word at a place: 16 bits, signed, high byte first.
 pub fn word(bytes: &[u8], at: usize) -> i16
@@ -17,28 +9,24 @@ pub fn word(bytes: &[u8], at: usize) -> i16
     i16::from_be_bytes([bytes[at], bytes[at + 1]])
 }
 
-/// The word at a place without its sign.
-pub fn magnitude(bytes: &[u8], at: usize) -> usize
-    requires { at + 2 ≤ length bytes.now }
-    ensures value { result ≡ unsigned_abs (word bytes.now at) }
+/// A word without its sign.
+pub fn magnitude(word: i16) -> usize
+    ensures value { result ≡ unsigned_abs word }
     ensures bound { result ≤ 32768 }
 {
-    word(bytes, at).unsigned_abs() as usize
+    usize::from(word.unsigned_abs())
 }
 
-/// Whether the word at a place is 0 or more.
-pub fn word_is_whole(bytes: &[u8], at: usize) -> bool
-    requires { at + 2 ≤ length bytes.now }
-    ensures { result ≡ non_neg (word bytes.now at) }
+/// Whether a word is from `low` to `high`.
+pub fn is_within(word: i16, low: usize, high: usize) -> bool
+    ensures { result ≡ within word low high }
 {
-    word(bytes, at) >= 0
+    usize::try_from(word).is_ok_and(|n| low <= n && n <= high)
 }
 
-/// Whether the word at a place is from `low` to `high`.
-pub fn word_is_within(bytes: &[u8], at: usize, low: usize, high: usize) -> bool
-    requires { at + 2 ≤ length bytes.now }
-    ensures { result ≡ within (word bytes.now at) low high }
+/// The value of a byte, signed.
+pub fn signed(byte: u8) -> i16
+    ensures { result ≡ signed8 byte }
 {
-    let z = word(bytes, at);
-    z >= 0 && low <= z as usize && z as usize <= high
+    i16::from(byte.cast_signed())
 }

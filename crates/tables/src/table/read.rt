@@ -10,23 +10,27 @@ ghost use Rattle.tables.specs.Verdicts.{Told};
 ghost use Rattle.tables.specs.Meaning.{bytes_of};
 
 use super::Table;
-use crate::pairs::{even_class_of, odd_class_of};
+use crate::entry::Entry;
+use crate::lead::Lead;
+use crate::passed::Passed;
 use crate::verdict::Summary;
-use crate::verdict::judge::machine_of;
-use crate::words::{magnitude, word_is_whole};
+use crate::words::word;
 use automata::state_table::StateTable;
 use refusals::Direction;
 
 impl Table {
+    // The bytes, which pass every check.
+    pub(super) fn passed(&self) -> Passed<'_>
+        ensures { result.bytes.now ≡ bytes_of self.now }
+    {
+        Passed::new(self.bytes.as_slice())
+    }
+
     /// What is told of the table: its states, classes and sure pairs.
     pub fn summary(&self) -> Summary
         ensures { Told (bytes_of self.now) result }
     {
-        Summary {
-            states: self.layout.state_total,
-            classes: self.layout.class_total,
-            sure: self.sure.count(),
-        }
+        self.layout.summary(&self.sure)
     }
 
     /// The code of a state and a class in the forward table.
@@ -52,26 +56,21 @@ impl Table {
         ensures states { result.states ≡ states (bytes_of self.now) Backward }
         ensures classes { result.classes ≡ classes (bytes_of self.now) }
     {
-        machine_of(self.bytes.as_slice(), Direction::Backward)
+        self.passed().machine(Direction::Backward)
     }
 
     /// The table's doBackup, or 0 where that is negative.
     pub fn backup(&self) -> usize
         ensures { result ≡ backup (bytes_of self.now) }
     {
-        let bytes = self.bytes.as_slice();
-        if word_is_whole(bytes, 12) {
-            magnitude(bytes, 12)
-        } else {
-            0
-        }
+        usize::try_from(word(self.bytes.as_slice(), 12)).unwrap_or(0)
     }
 
     // The class table's entry of a byte value, as it stands there.
     fn entry(&self, byte: u8) -> u8
         ensures { signed8 result ≡ entry (bytes_of self.now) byte }
     {
-        self.bytes[self.layout.class_place + byte as usize]
+        self.bytes[self.layout.class_place + usize::from(byte)]
     }
 
     /// Whether a byte is a first byte.
@@ -85,11 +84,9 @@ impl Table {
     pub fn one_byte_class(&self, byte: u8) -> Option<usize>
         ensures { MatchOption result (leads (bytes_of self.now) byte ≡ true) (λ c. (leads (bytes_of self.now) byte ≡ false) × (c ≡ one_class (bytes_of self.now) byte)) }
     {
-        let entry = self.entry(byte);
-        if entry < 128 {
-            Some(entry as usize)
-        } else {
-            None
+        match Entry::read(self.entry(byte)) {
+            Entry::Class(class) => Some(class),
+            _ => None,
         }
     }
 
@@ -98,12 +95,11 @@ impl Table {
         requires { leads (bytes_of self.now) first ≡ true }
         ensures { result ≡ two_class (bytes_of self.now) first second }
     {
-        let k = 256 - self.entry(first) as usize;
-        let bytes = self.bytes.as_slice();
-        if k % 2 == 0 {
-            even_class_of(bytes, k, second)
-        } else {
-            odd_class_of(bytes, k)
+        let parts = self.passed().parts();
+        match Entry::read(self.entry(first)) {
+            Entry::Class(_) => unreachable(),
+            Entry::Odd(k) => Lead::new(parts, k).odd_class(),
+            Entry::Even(k) => Lead::new(parts, k).even_class(second),
         }
     }
 }

@@ -2,7 +2,6 @@ ghost use Rattle.tables.specs.Steady.{SteadyChecked};
 ghost use Rattle.tables.specs.Meaning.{bytes_of};
 
 use super::Table;
-use crate::parts::first_code_place;
 use refusals::{Direction, Refusal};
 
 impl Table {
@@ -13,7 +12,7 @@ impl Table {
     {
         match self.backward().unsteady(&self.sure) {
             Some(k) => {
-                let at = first_code_place(self.bytes.as_slice(), Direction::Backward);
+                let at = self.passed().parts().first_code_place(Direction::Backward);
                 Err(Refusal::Unsteady(at + k))
             }
             None => Ok(()),

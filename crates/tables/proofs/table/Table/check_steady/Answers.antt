@@ -1,18 +1,10 @@
-use Rattle.std.proofs.Common.{◌≡◌, ℕ, ◌+◌, List, sym, ap, ◌∙◌, subst, arith, rules}
+use Rattle.std.proofs.Common.{◌≡◌, ℕ, ◌+◌, List, sym, ap, ◌∙◌, arith, rules}
 use Rattle.refusals.specs.declared.Direction.TheVariants.{Backward}
 use Rattle.automata.specs.Parts.{code_of}
 use Rattle.tables.specs.Layout.{machine, classes, code_place}
-use Rattle.tables.specs.Checks.{Passes, header_checks}
 use Rattle.tables.specs.Meaning.{bytes_of}
-use Rattle.tables.proofs.Kept.{table_passes}
-use Rattle.tables.proofs.Tabled.{header_passes}
 use Rattle.tables.proofs.Steadies.{by_test, by_bits}
 use Rattle.tables.proofs.table.Table.check_steady.Goals as goal
-
-pub first_code_place-at-requires : goal.first_code_place-at-requires
-first_code_place-at-requires c =
-    let b = bytes_of c.args.self.now in
-    subst (λ (l : List ℕ). Passes (header_checks l)) (sym c.as_slice.ensures.value) (header_passes b (table_passes c.args.self.now))
 
 pub returns-in-Some : goal.returns-in-Some
 returns-in-Some c =
@@ -24,7 +16,7 @@ returns-in-Some c =
     let k = c.in-Some.k in
     let l = c.in-Some.ensures.least in
     let place : c.first_code_place-at.result + k ≡ code_place b Backward k =
-    let at = c.first_code_place-at.ensures.value ∙ ap (λ (l : List ℕ). code_place l Backward 0) c.as_slice.ensures.value in
+    let at = c.first_code_place-at.ensures.value ∙ ap (λ (l : List ℕ). code_place l Backward 0) (c.parts.ensures ∙ c.passed.ensures) in
     omega arith in (
       k,
       λ sure tells. (

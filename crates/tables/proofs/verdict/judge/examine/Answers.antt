@@ -21,7 +21,7 @@ returns c =
         states_is = search rules;
         classes_is = search rules;
         sure_is = λ test tells.
-            c.count.ensures
+            c.summary.ensures.sure
             ∙ pairs_within (holds rows) C 128 (classes_high b (list_passes b e.is_sound.passes Forward)) s.none_first s.none_second
             ∙ pairs_same (holds rows) test C C (λ x y l r. same_from_decides (holds rows x y) (test x y) (s.bits x y l r) (tells x y l r));
       },
