@@ -1,5 +1,5 @@
 use Rattle.std.proofs.Common.{inl, inr, arith, below_more}
-use Rattle.automata.proofs.state_table.StateTable.spoilt.Goals as goal
+use Rattle.automata.proofs.state_table.steady.SteadyCheck.spoilt.Goals as goal
 
 pub loop-state-init : goal.loop-state-init
 loop-state-init c = (λ t lt lo. absurd (omega arith), λ k h. absurd (c.empty-all.ensures k h))
