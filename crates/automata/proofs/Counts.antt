@@ -1,9 +1,12 @@
 -- Bits counted: those of a word, and those of rows whose bits lie below a bound.
-use Rattle.std.proofs.Common.{◌≡◌, ℕ, zero, suc, ◌+◌, ◌-◌, ◌/◌, ◌%◌, ◌^◌, ◌<◌, ◌≤◌, Bool, false, cond, eqb, sym, refl, ap, ◌∙◌, inl, inr, add-one, one-add, arith}
+use Rattle.std.proofs.Common.{◌≡◌, ℕ, zero, suc, ◌+◌, ◌-◌, ◌/◌, ◌%◌, ◌^◌, ◌<◌, ◌≤◌, Bool, false, cond, eqb, List, length, get_or, take, sym, refl, ap, ◌∙◌, inl, inr, add-one, one-add, arith}
+use Rattle.std.specs.List.{sum_by}
+use Rattle.std.proofs.lemmas.List.{take_all}
+use Rattle.std.proofs.lemmas.List.Sums.{sum_by_more}
 use lib.Count.{ones, ones_step, ones_cat, ones-le}
 use Rattle.std.proofs.lemmas.Nat.{field_of, mod-pow-add, mod-mul-add, mod_below, pow_pos, shr_below, div-add-mod'}
 use Rattle.std.proofs.lemmas.Bool.{cond-true, cond-false, cases_eq, cases_lt, eq-eqb, ne_eqb}
-use Rattle.automata.specs.Sure.{count_row, count_pairs}
+use Rattle.automata.specs.Sure.{holds, count_row, count_pairs}
 use Rattle.automata.proofs.Digits.{set_in}
 
 -- the lowest bit of the low bits
@@ -48,13 +51,18 @@ ones_row (suc k) n h =
     let v = count_mod k n k (omega arith) in
     omega arith
 
-pub pairs_none : (p : ℕ → ℕ → Bool) (C : ℕ) → count_pairs p C 0 ≡ 0
+-- the bits of rows, row by row
+pub rows_counted : (rows : List ℕ) → length rows ≡ 128 → ((i : ℕ) → i < length rows → get_or rows i 0 < 2 ^ 128) → sum_by ones rows ≡ count_pairs (holds rows) 128 128
 unfolding count_pairs
-pairs_none p C = refl
-
-pub pairs_more : (p : ℕ → ℕ → Bool) (C n : ℕ) → count_pairs p C (n + 1) ≡ count_row (p n) C + count_pairs p C n
-unfolding count_pairs
-pairs_more p C n = rw add-one refl
+rows_counted rows long fits = ap (sum_by ones) (sym (take_all 128 rows (omega (arith, long)))) ∙ to 128 (omega (arith, long))
+  where
+    to : (n : ℕ) → n ≤ length rows → sum_by ones (take n rows) ≡ count_pairs (holds rows) 128 n
+    to zero le = refl
+    to (suc n) le =
+        let more : sum_by ones (take (suc n) rows) ≡ sum_by ones (take n rows) + ones (get_or rows n 0) = rw (← add-one) (sum_by_more ones rows n 0 le) in
+        let one = ones_row 128 (get_or rows n 0) (fits n le) in
+        let rest = to n (omega arith) in
+        omega arith
 
 -- numbers that pass a test only below C
 row_within : (q : ℕ → Bool) (C n : ℕ) → C ≤ n → ((b : ℕ) → C ≤ b → q b ≡ false) → count_row q n ≡ count_row q C

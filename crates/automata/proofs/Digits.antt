@@ -1,9 +1,9 @@
 -- Rows of bits, filled bit by bit and row by row.
-use Rattle.std.proofs.Common.{◌≡◌, ℕ, ◌+◌, ◌/◌, ◌%◌, ◌^◌, ◌<◌, ◌≤◌, Bool, false, eqb, List, length, set, replicate, Decides, sym, ap, ◌∙◌, subst, inl, inr, arith, pow_mono, below_more}
+use Rattle.std.proofs.Common.{◌≡◌, ℕ, ◌+◌, ◌/◌, ◌%◌, ◌^◌, ◌<◌, ◌≤◌, Bool, false, eqb, List, length, get_or, set, Decides, sym, ap, ◌∙◌, subst, inl, inr, arith, pow_mono, below_more}
 use native.Mathlib.Nat.{zero-div, div-eq_of_lt}
 use lib.Bits.{bit_or}
-use Rattle.std.proofs.lemmas.List.{get_or-set_same, get_or-set_other, get_or-replicate, get_or_past, length-set, length-replicate}
-use Rattle.std.proofs.lemmas.Bool.{cases_eq, cases_lt, eq-eqb, ne_eqb, eqb-true}
+use Rattle.std.proofs.lemmas.List.{get_or-set_same, get_or-set_other, get_or_past}
+use Rattle.std.proofs.lemmas.Bool.{cases_lt, eq-eqb, ne_eqb, eqb-true}
 use Rattle.automata.specs.Sure.{holds}
 use Rattle.automata.proofs.Sets.{with_it, with_other}
 
@@ -14,8 +14,11 @@ set_in n b = eqb (n / 2 ^ b % 2) 1
 pub unset : (n b : ℕ) → n / 2 ^ b % 2 ≡ 0 → set_in n b ≡ false
 unset n b z = ne_eqb _ 1 (omega arith)
 
+pub zero_bit : (b : ℕ) → 0 / 2 ^ b % 2 ≡ 0
+zero_bit b = ap (λ (n : ℕ). n % 2) (zero-div (2 ^ b))
+
 pub unset_zero : (b : ℕ) → set_in 0 b ≡ false
-unset_zero b = unset 0 b (ap (λ (n : ℕ). n % 2) (zero-div (2 ^ b)))
+unset_zero b = unset 0 b (zero_bit b)
 
 -- a word has no bit beyond its width
 pub unset_past : (n k b : ℕ) → n < 2 ^ k → k ≤ b → set_in n b ≡ false
@@ -40,40 +43,33 @@ fill_without Q row b f q = (
   λ j le. f.1 j (omega arith),
 )
 
--- rows of bits: those below i right, the others empty, and none with a bit from C on
-abbrev pub FilledTo : (ℕ → ℕ → Type 0) → ℕ → List ℕ → ℕ → Type 0
-FilledTo Q C rows i =
-    (length rows ≡ 128)
-    × ((a : ℕ) → a < i → (b : ℕ) → b < C → Decides (holds rows a b) (Q a b))
-    × ((a b : ℕ) → i ≤ a → holds rows a b ≡ false)
-    × ((a b : ℕ) → C ≤ b → holds rows a b ≡ false)
+-- a row of bits is right for number a below C, and empty for any other
+abbrev pub HasRow : (ℕ → ℕ → Type 0) → ℕ → ℕ → ℕ → Type 0
+HasRow Q C a row = (a < C → (b : ℕ) → b < C → Decides (set_in row b) (Q a b)) × ((b : ℕ) → C ≤ b → row / 2 ^ b % 2 ≡ 0) × (C ≤ a → row ≡ 0)
 
-holds_none : (a b : ℕ) → holds (replicate 128 0) a b ≡ false
-holds_none a b =
-    elim (cases_lt a 128) [
-      | inl l ↦ ap (λ (n : ℕ). set_in n b) (get_or-replicate {A = ℕ} 128 a 0 0 l) ∙ unset_zero b
-      | inr g ↦ ap (λ (n : ℕ). set_in n b) (get_or_past {X = ℕ} (replicate 128 0) a 0 g) ∙ unset_zero b
-    ]
+-- what holds of the rows below i, and of a row that is written at i
+pub each_set : (P : ℕ → ℕ → Type 0) (rows : List ℕ) (i v : ℕ) → i < length rows → ((a : ℕ) → a < i → P a (get_or rows a 0)) → P i v
+    → (a : ℕ) → a < i + 1 → P a (get_or (set rows i v) a 0)
+each_set P rows i v h all one =
+    below_more _ i
+    (λ a lt. subst (P a) (sym (get_or-set_other rows i a v 0 (omega arith))) (all a lt))
+    (subst (P i) (sym (get_or-set_same rows i v 0 h)) one)
 
-pub rows_none : (Q : ℕ → ℕ → Type 0) (C : ℕ) → FilledTo Q C (replicate 128 0) 0
-rows_none Q C = (length-replicate {A = ℕ} 128 0, λ a h. absurd (omega arith), λ a b _. holds_none a b, λ a b _. holds_none a b)
+-- rows of bits are right below C, and empty from there on
+abbrev pub FilledRows : (ℕ → ℕ → Type 0) → ℕ → List ℕ → Type 0
+FilledRows Q C rows =
+    ((a b : ℕ) → a < C → b < C → Decides (holds rows a b) (Q a b))
+    × ((a b : ℕ) → C ≤ a → holds rows a b ≡ false) × ((a b : ℕ) → C ≤ b → holds rows a b ≡ false)
 
-holds_same : (rows : List ℕ) (i v b : ℕ) → i < length rows → holds (set rows i v) i b ≡ set_in v b
-holds_same rows i v b h = ap (λ (n : ℕ). set_in n b) (get_or-set_same rows i v 0 h)
-
-holds_other : (rows : List ℕ) (i v a b : ℕ) → (a ≡ i → ⊥) → holds (set rows i v) a b ≡ holds rows a b
-holds_other rows i v a b ne = ap (λ (n : ℕ). set_in n b) (get_or-set_other rows i a v 0 ne)
-
-pub rows_more : (Q : ℕ → ℕ → Type 0) (C : ℕ) (rows : List ℕ) (i v : ℕ) → i < 128 → Filled (Q i) v C → FilledTo Q C rows i → FilledTo Q C (set rows i v) (i + 1)
-rows_more Q C rows i v h f g =
-    let size = g.0 in (
-      length-set rows i v ∙ size,
-      below_more _ i
-          (λ a lt b hb. subst (λ (t : Bool). Decides t (Q a b)) (sym (holds_other rows i v a b (omega arith))) (g.1 a lt b hb))
-          (λ b hb. subst (λ (t : Bool). Decides t (Q i b)) (sym (holds_same rows i v b (omega arith))) (f.0 b hb)),
-      λ a b le. holds_other rows i v a b (omega arith) ∙ g.2 a b (omega arith),
-      λ a b le. elim (cases_eq a i) [
-        | inl e ↦ subst (λ (n : ℕ). holds (set rows i v) n b ≡ false) (sym e) (holds_same rows i v b (omega arith) ∙ unset v b (f.1 b le))
-        | inr ne ↦ holds_other rows i v a b ne ∙ g.3 a b le
-      ],
-    )
+pub rows_filled : (Q : ℕ → ℕ → Type 0) (C : ℕ) (rows : List ℕ) → C ≤ 128 → length rows ≡ 128 → ((a : ℕ) → a < 128 → HasRow Q C a (get_or rows a 0)) → FilledRows Q C rows
+rows_filled Q C rows few long each = (
+  λ a b ha hb. (each a (omega arith)).0 ha b hb,
+  λ a b le. elim (cases_lt a 128) [
+    | inl l ↦ ap (λ (n : ℕ). set_in n b) ((each a l).2 le) ∙ unset_zero b
+    | inr g ↦ past a b g
+  ],
+  λ a b le. elim (cases_lt a 128) [ inl l ↦ unset _ b ((each a l).1 b le) | inr g ↦ past a b g ],
+)
+  where
+    past : (a b : ℕ) → 128 ≤ a → holds rows a b ≡ false
+    past a b g = ap (λ (n : ℕ). set_in n b) (get_or_past {X = ℕ} rows a 0 (omega (arith, long))) ∙ unset_zero b

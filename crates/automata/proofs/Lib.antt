@@ -8,3 +8,4 @@ pub mod Counts
 pub mod Sures
 pub mod Gathers
 pub mod Unsteadies
+pub mod Searches

@@ -1,11 +1,11 @@
 -- Runs that do not advance: what a row that is stuck goes through, and a row for each such code.
-use Rattle.std.proofs.Common.{◌≡◌, ℕ, ◌+◌, ◌-◌, ◌<◌, ◌≤◌, true, false, ◌⊎◌, List, [], ◌∷◌, ◌++◌, length, Some, None, Option, sym, refl, ap, ◌∙◌, subst, inl, inr, le_refl, arith}
+use Rattle.std.proofs.Common.{◌≡◌, ℕ, ◌+◌, ◌-◌, ◌<◌, ◌≤◌, true, false, ◌⊎◌, List, [], ◌∷◌, ◌++◌, length, Some, None, MatchOption, Option, sym, refl, ap, ◌∙◌, subst, inl, inr, le_refl, arith}
 use Rattle.std.proofs.lemmas.Nat.{mul-add-lt, mul-le}
 use Rattle.std.proofs.lemmas.Bool.{cond-true, cond-false, cond_both, eq-eqb, ne_eqb, le-leb, lt-leb, cases_eq, cases_lt, cases_order, false≢true}
 use Rattle.automata.specs.Machine.{index, next, exits, marks, marked, before, Ending, runs_out, exits_by, scan, scanned, taken, Row, Advances}
 use Rattle.automata.specs.Sets.{Has}
 use Rattle.automata.specs.Reach.{Runs, From, Step}
-use Rattle.automata.specs.Stuck.{Stuck, Least, ExitsOn, QuitsBy}
+use Rattle.automata.specs.Stuck.{Stuck, Least, ExitsOn, QuitsBy, FirstCode}
 use Rattle.automata.proofs.Rows.{Closed, within, from_step}
 
 -- codes of a lower state come first
@@ -15,6 +15,36 @@ index_lt C s c t d h o l = omega (arith, mul-add-lt (s - 1) C c s (omega arith) 
 pub least_same : (P Q : ℕ → Type 0) → ((k : ℕ) → P k → Q k) → ((k : ℕ) → Q k → P k) → (r : Option ℕ) → Least P r → Least Q r
 least_same P Q f g None h = λ k q. h k (g k q)
 least_same P Q f g (Some k) h = (f k h.0, λ j q. h.1 j (g j q))
+
+-- the first class that has a property in the first state that has one gives the first of all codes
+pub first_of_all : (P : ℕ → ℕ → Type 0) (C s c : ℕ) → 1 ≤ s → c < C → ((t : ℕ) → t < s → 1 ≤ t → (d : ℕ) → P t d → ⊥) → ((d : ℕ) → P s d → c ≤ d)
+    → (t d k : ℕ) → 1 ≤ t → P t d → index C t d ≡ k → index C s c ≤ k
+first_of_all P C s c lo lt none least t d k ht p x =
+    elim (cases_order t s) [
+      | inl e ↦
+          let l : c ≤ d = least d (subst (λ (n : ℕ). P n d) e p) in
+          omega (arith, subst (λ (n : ℕ). index C n d ≡ k) e x)
+      | inr o ↦ elim o [
+        | inl l ↦ absurd (none t l ht d p)
+        | inr g ↦ omega (arith, index_lt C s c t d lt lo g, x)
+      ]
+    ]
+
+-- a search state by state, which gives the first class that has a property in a state, gives the first of all codes
+pub least_code : (P : ℕ → ℕ → Type 0) {gives : ℕ → Option ℕ → Type 0} (S C : ℕ) (r : Option ℕ) → FirstCode gives S C r
+    → ((s : ℕ) (o : Option ℕ) → 1 ≤ s → s < S → gives s o → Least (P s) o) → ((s c : ℕ) → P s c → c < C)
+    → Least (λ (k : ℕ). (s : ℕ) × (c : ℕ) × (1 ≤ s) × (s < S) × P s c × (index C s c ≡ k)) r
+least_code P {gives} S C r first least below = go r first.found
+  where
+    go : (o : Option ℕ) → MatchOption o ((s : ℕ) → 1 ≤ s → s < S → gives s None) (λ k. (s : ℕ) × (c : ℕ) × (1 ≤ s) × (s < S) × gives s (Some c) × (index C s c ≡ k) × ((t : ℕ) → 1 ≤ t → t < s → gives t None))
+        → Least (λ (k : ℕ). (s : ℕ) × (c : ℕ) × (1 ≤ s) × (s < S) × P s c × (index C s c ≡ k)) o
+    go None h = λ k q. least q.0 None q.2 q.3 (h q.0 q.2 q.3) q.1 q.4
+    go (Some k) h =
+        let l = least h.0 (Some h.1) h.2 h.3 h.4 in (
+          (h.0, h.1, h.2, h.3, l.0, h.5),
+          λ j q. subst (λ (n : ℕ). n ≤ j) h.5
+              (first_of_all P C h.0 h.1 h.2 (below h.0 h.1 l.0) (λ t lt lo. least t None lo (omega (arith, h.3)) (h.6 t lo lt)) l.1 q.0 q.1 j q.2 q.4 q.5),
+        )
 
 pub mark_set : (x i : ℕ) (m : Option ℕ) → 128 ≤ x → marked x i m ≡ Some i
 mark_set x i m h = cond-true (marks x) (Some i) m (le-leb 128 x h)
@@ -157,22 +187,6 @@ module _ (code : ℕ → ℕ → ℕ) (C : ℕ) where
             let q : index C 1 u.2 ≡ k = subst (λ (n : ℕ). index C n u.2 ≡ k) e u.7 in
             let z : next (code 1 u.2) ≡ 0 = subst (λ (n : ℕ). next (code n u.2) ≡ 0) e x.2 in
             omega (arith, least u.2 (x.1, (z, λ b. absurd (false≢true b))))
-      ]
-
-  -- the first quiet exit of the first state that has one is the first of all
-  pub quit_least : (S set s c : ℕ) → 1 ≤ s → c < C
-      → ((t : ℕ) → t < s → 1 ≤ t → Has set t → (d : ℕ) → ExitsOn true code C t d → ⊥)
-      → ((d : ℕ) → ExitsOn true code C s d → c ≤ d)
-      → (k : ℕ) → QuitsBy code S C set k → index C s c ≤ k
-  quit_least S set s c lo lt none least k q =
-      elim (cases_order q.0 s) [
-        | inl e ↦
-            let l : c ≤ q.1 = least q.1 (subst (λ (n : ℕ). ExitsOn true code C n q.1) e q.5) in
-            omega (arith, subst (λ (n : ℕ). index C n q.1 ≡ k) e q.6)
-        | inr o ↦ elim o [
-          | inl l ↦ absurd (none q.0 l q.2 q.4 q.1 q.5)
-          | inr g ↦ omega (arith, index_lt C s c q.0 q.1 lt lo g, q.6)
-        ]
       ]
 
   -- where no row is stuck, every run advances

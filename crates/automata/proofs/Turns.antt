@@ -1,22 +1,10 @@
 -- What the loops of a closure keep, and each turn.
-use Rattle.std.proofs.Common.{◌≡◌, ℕ, ◌+◌, ◌<◌, ◌≤◌, Bool, ◌⊎◌, sym, subst, inl, inr, arith, below_more}
-use Rattle.automata.specs.Machine.{next}
+use Rattle.std.proofs.Common.{ℕ, ◌+◌, ◌<◌, ◌≤◌, Bool, ◌⊎◌, inl, inr, arith, below_more}
 use Rattle.automata.specs.Sets.{Has}
-use Rattle.automata.specs.Reach.{Goes, From, Step}
+use Rattle.automata.specs.Reach.{From, Step}
 use Rattle.automata.proofs.Rows.{from_step}
 
--- b has all of a and k, and nothing else
-abbrev pub With : ℕ → ℕ → ℕ → Type 0
-With a k b = (a ≤ b) × Has b k × ((j : ℕ) → Has a j → Has b j) × ((j : ℕ) → Has b j → Has a j ⊎ (j ≡ k))
-
 module _ (quiet : Bool) (code : ℕ → ℕ → ℕ) (C : ℕ) where
-  -- b has all of a and where the codes of state s below class i lead
-  abbrev pub Spreads : ℕ → ℕ → ℕ → ℕ → Type 0
-  Spreads s a i b =
-      (a ≤ b) × ((k : ℕ) → Has a k → Has b k)
-      × ((c : ℕ) → c < i → Goes quiet (code s c) → Has b (next (code s c)))
-      × ((k : ℕ) → Has b k → Has a k ⊎ Step quiet code C s k)
-
   -- b has all of a and where the codes of state s lead
   abbrev pub Spread : ℕ → ℕ → ℕ → Type 0
   Spread s a b =
@@ -29,21 +17,6 @@ module _ (quiet : Bool) (code : ℕ → ℕ → ℕ) (C : ℕ) where
       (a ≤ b) × ((k : ℕ) → Has a k → Has b k)
       × ((s : ℕ) → s < i → 1 ≤ s → Has a s → (k : ℕ) → Step quiet code C s k → Has b k)
       × ((k : ℕ) → Has b k → From quiet code C a k)
-
-  pub spread_goes : (s a i b d x : ℕ) → i < C → x ≡ code s i → Goes quiet x → Spreads s a i b → With b (next x) d → Spreads s a (i + 1) d
-  spread_goes s a i b d x lt e g h w = (
-    omega arith,
-    λ k m. w.2 k (h.1 k m),
-    below_more _ i (λ c l m. w.2 _ (h.2 c l m)) (λ _. subst (λ (y : ℕ). Has d (next y)) e w.1),
-    λ k m. elim (w.3 k m) [
-      | inl o ↦ h.3 k o
-      | inr q ↦ inr (i, lt, subst (Goes quiet) e g, sym (subst (λ (y : ℕ). k ≡ next y) e q))
-    ],
-  )
-
-  pub spread_skips : (s a i b x : ℕ) → x ≡ code s i → (Goes quiet x → ⊥) → Spreads s a i b → Spreads s a (i + 1) b
-  spread_skips s a i b x e g h =
-      (h.0, h.1, below_more _ i h.2 (λ m. absurd (g (subst (Goes quiet) (sym e) m))), h.3)
 
   pub pass_has : (a i b d : ℕ) → Has b i → Passes a i b → Spread i b d → Passes a (i + 1) d
   pass_has a i b d m h w = (

@@ -1,7 +1,7 @@
 -- Rows that exit with an unsure last mark: where the mark is set, and a row for each such exit.
 use Rattle.std.proofs.Common.{◌≡◌, ℕ, ◌+◌, ◌<◌, ◌≤◌, Bool, true, false, ◌⊎◌, List, [], ◌∷◌, ◌++◌, length, get_or, Some, None, Decides, Option, sym, refl, ap, ◌∙◌, subst, inl, inr, append_assoc, arith}
 use Rattle.std.proofs.lemmas.List.{get_or-append-add}
-use Rattle.std.proofs.lemmas.Bool.{cases_lt, cases_order, le-leb, lt-leb, leb-true, leb-false, false≢true}
+use Rattle.std.proofs.lemmas.Bool.{cases_lt, le-leb, lt-leb, leb-true, leb-false, false≢true}
 use Rattle.automata.specs.Machine.{index, next, marked}
 use Rattle.automata.specs.Sets.{Has}
 use Rattle.automata.specs.Reach.{Runs, Leads, From}
@@ -9,7 +9,7 @@ use Rattle.automata.specs.Stuck.{Least}
 use Rattle.automata.specs.Steady.{last_mark, UnsureBefore, Unsteady}
 use Rattle.automata.specs.Unsure.{UnsureAt, Spoilt, Shaky, ShakyBy}
 use Rattle.automata.proofs.Rows.{Closed, within, runs_on}
-use Rattle.automata.proofs.Stucks.{index_lt, least_same, mark_set, mark_kept}
+use Rattle.automata.proofs.Stucks.{least_same, mark_set, mark_kept}
 
 module _ (code : ℕ → ℕ → ℕ) (C : ℕ) where
   -- quiet codes set no mark
@@ -127,20 +127,6 @@ module _ (code : ℕ → ℕ → ℕ) (C : ℕ) where
           refl,
           inr (lt-leb 128 (code t e) l, (length front, on ∙ set ∙ stay ∙ ap Some same, pair_is front c rest e ∙ u)),
         )
-
--- the first class that has a property in the first state that has one gives the first of all codes
-pub first_of_all : (P : ℕ → ℕ → Type 0) (C s c : ℕ) → 1 ≤ s → c < C → ((t : ℕ) → t < s → 1 ≤ t → (d : ℕ) → P t d → ⊥) → ((d : ℕ) → P s d → c ≤ d)
-    → (t d k : ℕ) → 1 ≤ t → P t d → index C t d ≡ k → index C s c ≤ k
-first_of_all P C s c lo lt none least t d k ht p x =
-    elim (cases_order t s) [
-      | inl e ↦
-          let l : c ≤ d = least d (subst (λ (n : ℕ). P n d) e p) in
-          omega (arith, subst (λ (n : ℕ). index C n d ≡ k) e x)
-      | inr o ↦ elim o [
-        | inl l ↦ absurd (none t l ht d p)
-        | inr g ↦ omega (arith, index_lt C s c t d lt lo g, x)
-      ]
-    ]
 
 -- an exit without a mark, in a state that no row leads to with an unsure mark already past
 pub shaky_quiet : (code : ℕ → ℕ → ℕ) (S C : ℕ) (sure : ℕ → ℕ → Bool) (reached late s d x : ℕ) (r : Bool) → x ≡ code s d → d < C → next x ≡ 0 → x < 128 → (Has late s → ⊥)

@@ -6,3 +6,4 @@ pub mod Parts
 pub mod Sure
 pub mod Steady
 pub mod Unsure
+pub mod Check

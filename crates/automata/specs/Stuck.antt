@@ -1,5 +1,5 @@
 -- Runs that do not advance, and the least code by which one can exit.
-use Rattle.std.specs.Prelude.{◌≡◌, ℕ, ◌<◌, ◌≤◌, Bool, true, List, Option, MatchOption}
+use Rattle.std.specs.Prelude.{◌≡◌, ℕ, ◌<◌, ◌≤◌, Bool, true, List, Option, Some, None, MatchOption}
 use Rattle.automata.specs.Machine.{index, next, before, exits_by, scanned, Row}
 use Rattle.automata.specs.Sets.{Has}
 
@@ -21,7 +21,17 @@ Exits quiet x = (next x ≡ 0) × (quiet ≡ true → x < 128)
 abbrev pub ExitsOn : Bool → (ℕ → ℕ → ℕ) → ℕ → ℕ → ℕ → Type 0
 ExitsOn quiet code C s c = (c < C) × Exits quiet (code s c)
 
+-- state s is in the set, and exits by class c without a mark
+abbrev pub QuitsOn : (ℕ → ℕ → ℕ) → ℕ → ℕ → ℕ → ℕ → Type 0
+QuitsOn code C set s c = Has set s × ExitsOn true code C s c
+
 -- the code of index k is a quiet exit of a state of the set, of S states
 abbrev pub QuitsBy : (ℕ → ℕ → ℕ) → ℕ → ℕ → ℕ → ℕ → Type 0
 QuitsBy code S C set k =
     (s : ℕ) × (c : ℕ) × (1 ≤ s) × (s < S) × Has set s × ExitsOn true code C s c × (index C s c ≡ k)
+
+-- the code of the first state, of S states, for which a class is given; `gives s r` says that r may be given for state s
+pub record FirstCode (gives : ℕ → Option ℕ → Type 0) (S C : ℕ) (r : Option ℕ) : Type 0 where
+  pub found :
+      MatchOption r ((s : ℕ) → 1 ≤ s → s < S → gives s None)
+      (λ k. (s : ℕ) × (c : ℕ) × (1 ≤ s) × (s < S) × gives s (Some c) × (index C s c ≡ k) × ((t : ℕ) → 1 ≤ t → t < s → gives t None))

@@ -26,6 +26,10 @@ Follows code S set a k =
 abbrev pub Stops : (ℕ → ℕ → ℕ) → ℕ → ℕ → ℕ → Type 0
 Stops code S set b = (s : ℕ) → 1 ≤ s → s < S → Has set s → Ends (code s b)
 
+-- in every state of the set, of S states, class a exits, or class b marks and exits in the state that follows
+abbrev pub HaltsIn : (ℕ → ℕ → ℕ) → ℕ → ℕ → ℕ → ℕ → Type 0
+HaltsIn code S set a b = (s : ℕ) → 1 ≤ s → s < S → Has set s → T (halts code s a b)
+
 -- bit b of row a is set
 abbrev pub holds : List ℕ → ℕ → ℕ → Bool
 holds rows a b = slice_index rows a / 2 ^ b % 2 == 1

@@ -2,6 +2,7 @@
 //! and whether a backward scan ends at such pairs alone.
 #![tactic(auto)]
 
+pub mod code;
 pub mod state_set;
 pub mod state_table;
 pub mod sure_pairs;

@@ -19,10 +19,7 @@ impl SurePairs {
     pub fn has(&self, a: usize, b: usize) -> bool
         ensures { result ≡ holds self.now.rows a b }
     {
-        if a >= 128 {
-            return false;
-        }
-        let row = self.rows[a];
+        let row = self.rows.get(a).copied().unwrap_or(0);
         b < 128 && (row >> b) % 2 == 1
     }
 
@@ -30,10 +27,6 @@ impl SurePairs {
     pub fn count(&self) -> usize
         ensures { result ≡ count_pairs (holds self.now.rows) 128 128 }
     {
-        let mut sum = 0usize;
-        for row in &self.rows {
-            sum += row.count_ones() as usize;
-        }
-        sum
+        self.rows.iter().map(|row| row.count_ones() as usize).sum()
     }
 }

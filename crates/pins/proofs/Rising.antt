@@ -1,12 +1,16 @@
 -- What rising lists of pins keep, and where a pin goes in or comes out.
-use Rattle.std.proofs.Common.{◌≡◌, ℕ, zero, suc, ◌+◌, ◌<◌, ◌≤◌, Bool, true, false, cond, T, eqb, ltb, List, [], ◌∷◌, length, get_or, take, drop, Some, None, sym, refl, ap, ◌∙◌, subst, ⊎_elim, one-add, arith}
-use Rattle.std.specs.List.{prefix_len, insert as inserted, remove}
+use Rattle.std.proofs.Common.{◌≡◌, ℕ, zero, suc, ◌<◌, ◌≤◌, Bool, true, false, T, eqb, List, [], ◌∷◌, length, get_or, Some, None, Option, Ok, Err, Result, sym, refl, ap, ◌∙◌, subst, ⊎_elim, le_refl, arith}
+use Rattle.std.specs.List.{insert as inserted, remove}
+use Rattle.std.specs.List.{slice_get, AllByRecursion}
+use Rattle.std.specs.List.Sorted.{IsSearchInRange, IsBinarySearchResult}
+use Rattle.std.specs.Option.{MatchOption, IfSome}
+use Rattle.std.specs.Ordering.{nat_cmp, ordering_index}
+use Rattle.std.proofs.lemmas.Option.{slice_get_cases, get_or_from_slice_get}
 use Rattle.std.proofs.lemmas.Bool.Decides.{nat_tests}
-use Rattle.std.proofs.lemmas.Bool.{cases_order, cond-true, cond-false, ne_eqb, eq-eqb, ltb-true, ltb-false, lt-ltb, le-ltb}
-use Rattle.std.proofs.lemmas.List.{get_or-take, length-take-le, length-take}
-use Rattle.std.proofs.lemmas.List.Sums.{prefix_len-drop_yes, prefix_len-drop_no, prefix_len-drop_all}
+use Rattle.std.proofs.lemmas.Bool.{cases_lt, cond-true, cond-false, ne_eqb, eq-eqb, ltb-true, lt-ltb, le-ltb}
+use Rattle.std.proofs.lemmas.List.Sorted.{IsNonDecreasingBy-from_default}
 use Rattle.pins.specs.declared.pin.Pin.{Pin}
-use Rattle.pins.specs.Order.{below, above, rising, insert, without, pin_at, nought}
+use Rattle.pins.specs.Order.{above, rising, insert, without, pin_at, nought, IsInside, IsSpot}
 
 pub T_true : (b : Bool) → T b → b ≡ true
 T_true true t = refl
@@ -47,49 +51,29 @@ rises size (q ∷ qs) s i zero h l = omega arith
 rises size (q ∷ qs) s zero (suc j) h l = above_all size q.place qs (grind (arith, nat_tests)) (grind (arith, nat_tests)) j (omega arith)
 rises size (q ∷ qs) s (suc i) (suc j) h l = rises size qs (grind (arith, nat_tests)) i j (omega arith) (omega arith)
 
-low_in : (size : ℕ) (qs : List Pin) → rising size qs ≡ true → (j : ℕ) → j < length qs → ((get_or qs j nought).number ≤ (get_or qs j nought).place) × ((get_or qs j nought).place < size)
+pub low_in : (size : ℕ) (qs : List Pin) → rising size qs ≡ true → (j : ℕ) → j < length qs → IsInside size (get_or qs j nought)
 low_in size [] s j h = absurd (let z : ⊥ = omega arith in z)
 low_in size (q ∷ qs) s zero h = (grind (arith, nat_tests), grind (arith, nat_tests))
 low_in size (q ∷ qs) s (suc j) h = low_in size qs (grind (arith, nat_tests)) j (omega arith)
 
--- ---- the spot of a place: after the pins below it
-before_spot : (n : ℕ) (qs : List Pin) (i : ℕ) → i < prefix_len (below n) qs → (get_or qs i nought).place < n
-before_spot n [] i h = omega arith
-before_spot n (q ∷ qs) zero h = grind (arith, nat_tests)
-before_spot n (q ∷ qs) (suc i) h = before_spot n qs i (grind (arith, nat_tests))
+-- ---- the spot of a place
+-- a pin goes in at its spot
+insert_new : (p : Pin) (qs : List Pin) (k : ℕ) → k ≤ length qs → ((i : ℕ) → i < k → (get_or qs i nought).place < p.place)
+    → ((i : ℕ) → k ≤ i → i < length qs → p.place < (get_or qs i nought).place) → insert p qs ≡ inserted qs k p
+insert_new p [] k le lower upper = let e : k ≡ 0 = omega arith in rw e refl
+insert_new p (q ∷ qs) zero le lower upper =
+    let l : p.place < q.place = upper 0 (omega arith) (omega arith) in
+    cond-false _ _ _ (le-ltb q.place p.place (omega arith)) ∙ cond-false _ _ _ (ne_eqb q.place p.place (omega arith))
+insert_new p (q ∷ qs) (suc k) le lower upper =
+    cond-true _ _ _ (lt-ltb _ _ (lower 0 (omega arith)))
+    ∙ ap (λ (z : List Pin). q ∷ z) (insert_new p qs k (omega arith) (λ i l. lower (suc i) (omega arith)) (λ i h l. upper (suc i) (omega arith) (omega arith)))
 
-at_spot : (n : ℕ) (qs : List Pin) → prefix_len (below n) qs < length qs → n ≤ (get_or qs (prefix_len (below n) qs) nought).place
-at_spot n [] h = omega arith
-at_spot n (q ∷ qs) h = go (at_spot n qs) (ltb q.place n) refl h
-  where
-    go : (prefix_len (below n) qs < length qs → n ≤ (get_or qs (prefix_len (below n) qs) nought).place) → (b : Bool) → ltb q.place n ≡ b
-        → cond b (1 + prefix_len (below n) qs) 0 < length (q ∷ qs) → n ≤ (get_or (q ∷ qs) (cond b (1 + prefix_len (below n) qs) 0) nought).place
-    go rest true e h = rw one-add (rest (omega arith))
-    go rest false e h = ltb-false q.place n e
-
--- a pin goes in at its spot, unless one is there at its place
-insert_new : (p : Pin) (qs : List Pin)
-    → (prefix_len (below p.place) qs < length qs → (get_or qs (prefix_len (below p.place) qs) nought).place ≡ p.place → ⊥)
-    → insert p qs ≡ inserted qs (prefix_len (below p.place) qs) p
-insert_new p [] ne = refl
-insert_new p (q ∷ qs) ne = go (insert_new p qs) (ltb q.place p.place) ne
-  where
-    go : ((prefix_len (below p.place) qs < length qs → (get_or qs (prefix_len (below p.place) qs) nought).place ≡ p.place → ⊥) → insert p qs ≡ inserted qs (prefix_len (below p.place) qs) p)
-        → (b : Bool) → (cond b (1 + prefix_len (below p.place) qs) 0 < length (q ∷ qs) → (get_or (q ∷ qs) (cond b (1 + prefix_len (below p.place) qs) 0) nought).place ≡ p.place → ⊥)
-        → cond b (q ∷ insert p qs) (cond (eqb q.place p.place) (q ∷ qs) (p ∷ q ∷ qs)) ≡ inserted (q ∷ qs) (cond b (1 + prefix_len (below p.place) qs) 0) p
-    go rest true ne = rw one-add (ap (λ (z : List Pin). q ∷ z) (rest (λ h e. ne (omega arith) (rw one-add e))))
-    go rest false ne = cond-false (eqb q.place p.place) (q ∷ qs) (p ∷ q ∷ qs) (ne_eqb q.place p.place (ne (omega arith)))
-
-insert_again : (p : Pin) (qs : List Pin) → prefix_len (below p.place) qs < length qs
-    → (get_or qs (prefix_len (below p.place) qs) nought).place ≡ p.place → insert p qs ≡ qs
-insert_again p [] h e = absurd (let z : ⊥ = omega arith in z)
-insert_again p (q ∷ qs) h e = go (insert_again p qs) (ltb q.place p.place) h e
-  where
-    go : (prefix_len (below p.place) qs < length qs → (get_or qs (prefix_len (below p.place) qs) nought).place ≡ p.place → insert p qs ≡ qs)
-        → (b : Bool) → cond b (1 + prefix_len (below p.place) qs) 0 < length (q ∷ qs) → (get_or (q ∷ qs) (cond b (1 + prefix_len (below p.place) qs) 0) nought).place ≡ p.place
-        → cond b (q ∷ insert p qs) (cond (eqb q.place p.place) (q ∷ qs) (p ∷ q ∷ qs)) ≡ q ∷ qs
-    go rest true h e = ap (λ (z : List Pin). q ∷ z) (rest (omega arith) (rw one-add at e))
-    go rest false h e = cond-true (eqb q.place p.place) (q ∷ qs) (p ∷ q ∷ qs) (eq-eqb q.place p.place e)
+insert_again : (p : Pin) (qs : List Pin) (k : ℕ) → k < length qs → ((i : ℕ) → i < k → (get_or qs i nought).place < p.place) → (get_or qs k nought).place ≡ p.place → insert p qs ≡ qs
+insert_again p [] k h lower e = absurd (let z : ⊥ = omega arith in z)
+insert_again p (q ∷ qs) zero h lower e = cond-false _ _ _ (le-ltb q.place p.place (omega arith)) ∙ cond-true _ _ _ (eq-eqb q.place p.place e)
+insert_again p (q ∷ qs) (suc k) h lower e =
+    cond-true _ _ _ (lt-ltb _ _ (lower 0 (omega arith)))
+    ∙ ap (λ (z : List Pin). q ∷ z) (insert_again p qs k (omega arith) (λ i l. lower (suc i) (omega arith)) e)
 
 absent : (n : ℕ) (qs : List Pin) → ((i : ℕ) → i < length qs → (get_or qs i nought).place ≡ n → ⊥) → (without n qs ≡ qs) × (pin_at n qs ≡ None)
 absent n [] f = (refl, refl)
@@ -98,63 +82,65 @@ absent n (q ∷ qs) f =
     let r = absent n qs (λ i h. f (suc i) (omega arith)) in
     (cond-false _ _ _ e ∙ ap (λ (z : List Pin). q ∷ z) r.0, cond-false _ _ _ e ∙ r.1)
 
-present : (n : ℕ) (qs : List Pin) (k : ℕ) → k < length qs → ((i : ℕ) → i < k → (get_or qs i nought).place ≡ n → ⊥) → (get_or qs k nought).place ≡ n
+present : (n : ℕ) (qs : List Pin) (k : ℕ) → k < length qs → ((i : ℕ) → i < k → (get_or qs i nought).place < n) → (get_or qs k nought).place ≡ n
     → (without n qs ≡ remove qs k) × (pin_at n qs ≡ Some (get_or qs k nought))
 present n [] k h f e = absurd (let z : ⊥ = omega arith in z)
 present n (q ∷ qs) zero h f e = (cond-true _ _ _ (eq-eqb _ _ e), cond-true _ _ _ (eq-eqb _ _ e))
 present n (q ∷ qs) (suc k) h f e =
-    let d : eqb q.place n ≡ false = ne_eqb _ _ (f 0 (omega arith)) in
+    let l : q.place < n = f 0 (omega arith) in
+    let d : eqb q.place n ≡ false = ne_eqb _ _ (omega arith) in
     let r = present n qs k (omega arith) (λ i l. f (suc i) (omega arith)) e in
     (cond-false _ _ _ d ∙ ap (λ (z : List Pin). q ∷ z) r.0, cond-false _ _ _ d ∙ r.1)
 
--- ---- the same of the first entries of an array
--- no pin is at the place
-pub nowhere : (size : ℕ) (es : List Pin) (count n k : ℕ) → k ≡ prefix_len (below n) (take count es) → rising size (take count es) ≡ true → (k < count → (get_or es k nought).place ≡ n → ⊥)
-    → (without n (take count es) ≡ take count es) × (pin_at n (take count es) ≡ None)
-nowhere size es count n k is s ne =
-    let l : length (take count es) ≤ count = simp length-take (omega arith) in
-    absent n (take count es) (λ i h e. ⊎_elim
-    (λ same. let h' : k < count = omega arith in ne h' (sym (ap (λ (z : Pin). z.place) (get_or-take count es k nought h')) ∙ (ap (λ (z : ℕ). (get_or (take count es) z nought).place) (sym same) ∙ e)))
-    (λ o. ⊎_elim (λ lt. omega (arith, before_spot n (take count es) i (omega arith)))
-    (λ gt. omega (arith, at_spot n (take count es) (omega arith), rises size (take count es) s k i gt h, ap (λ (z : ℕ). (get_or (take count es) z nought).place) is)) o) (cases_order i k))
+module _ (size n : ℕ) (qs : List Pin) (rise : rising size qs ≡ true) where
+  -- a pin is at the place
+  module _ (k : ℕ) (spot : IsSpot n qs (Ok k)) where
+    lower : (i : ℕ) → i < k → (get_or qs i nought).place < n
+    lower i l = omega (arith, rises size qs rise i k l spot.0, spot.1)
 
-pub spot_end : (es : List Pin) (count n k : ℕ) → count ≤ k → prefix_len (below n) (drop k (take count es)) ≡ 0
-spot_end es count n k h = prefix_len-drop_all (below n) (take count es) k (simp length-take (omega arith))
+    pub there : (without n qs ≡ remove qs k) × (pin_at n qs ≡ Some (get_or qs k nought))
+    there = present n qs k spot.0 lower spot.1
 
-module _ (es : List Pin) (count : ℕ) (le : count ≤ length es) where
-  sized : length (take count es) ≡ count
-  sized = length-take-le count es le
+    pub put_again : (p : Pin) → p.place ≡ n → insert p qs ≡ qs
+    put_again p e = insert_again p qs k spot.0 (λ i l. omega (arith, lower i l)) (spot.1 ∙ sym e)
 
-  entry : (k : ℕ) → k < count → get_or (take count es) k nought ≡ get_or es k nought
-  entry k h = get_or-take count es k nought h
+  -- none is
+  module _ (k : ℕ) (spot : IsSpot n qs (Err k)) where
+    pub nowhere : (without n qs ≡ qs) × (pin_at n qs ≡ None)
+    nowhere = absent n qs (λ i h e. ⊎_elim (λ l. omega (arith, spot.1 i l)) (λ g. omega (arith, spot.2 i g h)) (cases_lt i k))
 
-  pub low_at : (size : ℕ) → rising size (take count es) ≡ true → (k : ℕ) → k < count → ((get_or es k nought).number ≤ (get_or es k nought).place) × ((get_or es k nought).place < size)
-  low_at size s k h =
-      let l = sized in
-      subst (λ (q : Pin). (q.number ≤ q.place) × (q.place < size)) (entry k h) (low_in size (take count es) s k (omega arith))
+    pub put_new : (p : Pin) → p.place ≡ n → insert p qs ≡ inserted qs k p
+    put_new p e = insert_new p qs k spot.0 (λ i l. omega (arith, spot.1 i l)) (λ i g h. omega (arith, spot.2 i g h))
 
-  -- the steps of a search for the spot of a place
-  pub spot_more : (n k : ℕ) → k < count → (get_or es k nought).place < n → prefix_len (below n) (drop k (take count es)) ≡ 1 + prefix_len (below n) (drop (k + 1) (take count es))
-  spot_more n k h b = prefix_len-drop_yes (below n) (take count es) k nought (rw length-take-le h) (ap (below n) (entry k h) ∙ lt-ltb _ _ b)
+  -- what a binary search for the place says
+  compares_up : (i j : ℕ) → i ≤ j → j < length qs → ordering_index (nat_cmp (get_or qs i nought).place n) ≤ ordering_index (nat_cmp (get_or qs j nought).place n)
+  compares_up i j le h =
+      let up : (get_or qs i nought).place ≤ (get_or qs j nought).place =
+      ⊎_elim (λ l. omega (arith, rises size qs rise i j l h)) (λ g. let e : i ≡ j = omega arith in rw e (le_refl _)) (cases_lt i j) in
+      grind (arith, nat_tests)
 
-  pub spot_here : (n k : ℕ) → k < count → n ≤ (get_or es k nought).place → prefix_len (below n) (drop k (take count es)) ≡ 0
-  spot_here n k h b = prefix_len-drop_no (below n) (take count es) k nought (rw length-take-le h) (ap (below n) (entry k h) ∙ le-ltb _ _ b)
+  pub spot_found : (r : Result ℕ ℕ) → IsSearchInRange r (length qs) → IsBinarySearchResult (λ q. nat_cmp q.place n) qs r → IsSpot n qs r
+  spot_found (Ok k) within b = (within, let e = b nought in grind (arith, nat_tests))
+  spot_found (Err k) within b =
+      let point = b (IsNonDecreasingBy-from_default (λ q. ordering_index (nat_cmp q.place n)) qs nought compares_up) in (
+        within,
+        λ i l. let e = point.0 i nought (omega arith) l in grind (arith, nat_tests),
+        λ i g h. let e = point.1 i nought g h in grind (arith, nat_tests),
+      )
 
-  module _ (n k : ℕ) (is : k ≡ prefix_len (below n) (take count es)) where
-    -- a pin is at the place
-    pub there : k < count → (get_or es k nought).place ≡ n → (without n (take count es) ≡ remove (take count es) k) × (pin_at n (take count es) ≡ Some (get_or es k nought))
-    there h e =
-        let l = sized in
-        let r = present n (take count es) k (omega arith) (λ i lt eq. omega (arith, before_spot n (take count es) i (omega arith))) (ap (λ (z : Pin). z.place) (entry k h) ∙ e) in
-        (r.0, r.1 ∙ ap (λ (z : Pin). Some z) (entry k h))
+-- what is read of a rising list
+pub got : (size : ℕ) (qs : List Pin) → rising size qs ≡ true → (k : ℕ) (o : Option Pin) → o ≡ slice_get qs k
+    → MatchOption o (length qs ≤ k) (λ p. (k < length qs) × (p ≡ get_or qs k nought)) × IfSome o (IsInside size)
+got size qs rise k o e =
+    ⊎_elim
+    (λ h. let is = get_or_from_slice_get qs k h.0 nought h.2 in rw (e ∙ h.2) ((h.1, sym is), subst (IsInside size) is (low_in size qs rise k h.1)))
+    (λ h. rw (e ∙ h.1) (h.0, tt))
+    (slice_get_cases qs k).1
 
-  module _ (p : Pin) (k : ℕ) (is : k ≡ prefix_len (below p.place) (take count es)) where
-    pub put_again : k < count → (get_or es k nought).place ≡ p.place → take count es ≡ insert p (take count es)
-    put_again h seen =
-        let l = sized in
-        sym (insert_again p (take count es) (omega arith) (rw (← is) (rw get_or-take seen)))
+pub read_within : (qs : List Pin) (k : ℕ) (o : Option Pin) → MatchOption o (length qs ≤ k) (λ p. (k < length qs) × (p ≡ get_or qs k nought)) → k < length qs → o ≡ Some (get_or qs k nought)
+read_within qs k None h lt = absurd (let z : ⊥ = omega arith in z)
+read_within qs k (Some p) h lt = ap (λ (z : Pin). Some z) h.1
 
-    pub put_new : (es' : List Pin) → (k < count → (get_or es k nought).place ≡ p.place → ⊥) → take (count + 1) es' ≡ inserted (take count es) k p → take (count + 1) es' ≡ insert p (take count es)
-    put_new es' ne e =
-        let l = sized in
-        e ∙ (ap (λ (z : ℕ). inserted (take count es) z p) is ∙ sym (insert_new p (take count es) (λ h seen. ne (omega arith) (let h' : k < count = omega arith in let s = rw (← is) at seen in rw get_or-take at s))))
+pub all_inside : (size : ℕ) (qs : List Pin) → rising size qs ≡ true → AllByRecursion (IsInside size) qs
+all_inside size [] s = tt
+all_inside size (q ∷ qs) s = ((grind (arith, nat_tests), grind (arith, nat_tests)), all_inside size qs (grind (arith, nat_tests)))

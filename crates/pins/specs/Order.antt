@@ -1,11 +1,8 @@
 -- Lists of pins in the order of their places.
-use Rattle.std.specs.Prelude.{ℕ, Bool, true, cond, ◌&&◌, List, [], ◌∷◌, Some, None, Option, ◌==◌, nat_le, nat_lt}
+use Rattle.std.specs.Prelude.{◌≡◌, ℕ, ◌<◌, ◌≤◌, Bool, true, cond, ◌&&◌, List, [], ◌∷◌, length, Some, None, Option, Result, MatchResult, ◌==◌, nat_le, nat_lt, slice_index_or}
 use Rattle.pins.specs.declared.pin.Pin.{Pin}
 
--- a pin lies below a place; is not above it; its number is not above a number
-abbrev pub below : ℕ → Pin → Bool
-below place q = nat_lt q.place place
-
+-- a pin is not above a place; its number is not above a number
 abbrev pub up_to : ℕ → Pin → Bool
 up_to place q = nat_le q.place place
 
@@ -51,3 +48,15 @@ last_by test (q ∷ qs) = or_else (last_by test qs) (cond (test q) (Some q) None
 -- a pin at 0, as what is read of an array past its end
 abbrev pub nought : Pin
 nought = record { place = 0; number = 0 }
+
+-- a pin of a text of so many bytes lies inside it, and its number does not pass its place
+abbrev pub IsInside : ℕ → Pin → Type 0
+IsInside size p = (p.number ≤ p.place) × (p.place < size)
+
+-- the index of the pin at a place, or else the index between the pins below the place and those above it
+abbrev pub IsSpot : ℕ → List Pin → Result ℕ ℕ → Type 0
+IsSpot place qs r =
+    MatchResult r (λ k. (k < length qs) × ((slice_index_or qs k nought).place ≡ place))
+    (λ k. (k ≤ length qs)
+    × ((i : ℕ) → i < k → (slice_index_or qs i nought).place < place)
+    × ((i : ℕ) → k ≤ i → i < length qs → place < (slice_index_or qs i nought).place))

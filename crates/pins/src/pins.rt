@@ -11,6 +11,7 @@ use crate::pin::Pin;
 #[derive(Clone, Copy)]
 pub struct Pins {
     size: usize,
+    // a rule of the project: an array with a count, changed by value, so that no pin needs the heap
     entries: [Pin; 64],
     count: usize,
     ghost short: { size ≤ 16383 },

@@ -1,16 +1,10 @@
-ghost use Rattle.std.specs.Prelude.{◌-◌, ◌*◌, ◌<◌, ◌≤◌, true, false, IfSome, Decides};
-ghost use Rattle.automata.specs.Stuck.{Exits, ExitsOn, QuitsBy, Stuck, Least};
+ghost use Rattle.std.specs.Prelude.{ℕ, ◌-◌, ◌*◌, ◌<◌, ◌≤◌, true, false, Some, IfSome};
+ghost use Rattle.automata.specs.Stuck.{ExitsOn, QuitsOn, QuitsBy, Stuck, Least, FirstCode};
 ghost use Rattle.automata.specs.Parts.{code_of};
 
 use super::StateTable;
+use crate::code::Code;
 use crate::state_set::StateSet;
-
-/// Whether a code exits and, where only quiet codes are asked for, does not mark.
-fn exits(quiet: bool, x: u8) -> bool
-    ensures { Decides result (Exits quiet x) }
-{
-    (x % 128) / 2 == 0 && (x < 128 || !quiet)
-}
 
 impl StateTable<'_> {
     /// The first class by which a state exits.
@@ -18,12 +12,9 @@ impl StateTable<'_> {
         requires { (1 ≤ state) × (state < self.now.states) }
         ensures { Least (ExitsOn quiet (code_of self.now) self.now.classes state) result }
     {
-        for class in 0..self.classes {
-            if exits(quiet, self.code(state, class)) {
-                return Some(class);
-            }
-        }
-        None
+        self.row(state)
+            .iter()
+            .position(|byte| Code::new(*byte).exits_by(quiet))
     }
 
     /// The index of the first code by which a state of the set exits without a mark.
@@ -31,11 +22,30 @@ impl StateTable<'_> {
         ensures least { Least (QuitsBy (code_of self.now) self.now.states self.now.classes set.bits) result }
         ensures within { IfSome result (λ k. k < (self.now.states - 1) * self.now.classes) }
     {
+        self.first_code(|state| self.first_quit_of(set, state))
+    }
+
+    /// The first class by which a state exits without a mark, if the set has that state.
+    fn first_quit_of(&self, set: StateSet, state: usize) -> Option<usize>
+        requires { (1 ≤ state) × (state < self.now.states) }
+        ensures { Least (QuitsOn (code_of self.now) self.now.classes set.bits state) result }
+    {
+        if !set.has(state) {
+            return None;
+        }
+        self.first_exit(true, state)
+    }
+
+    /// The index of the code of the first state for which `first` gives a class.
+    pub(super) fn first_code<F: Fn(usize) -> Option<usize>>(&self, first: F) -> Option<usize>
+        requires callable { (s : ℕ) → 1 ≤ s → s < self.now.states → F.pre first s }
+        requires classes { (s c : ℕ) → 1 ≤ s → s < self.now.states → F.post first s (Some c) → c < self.now.classes }
+        ensures first { FirstCode (F.post first) self.now.states self.now.classes result }
+        ensures within { IfSome result (λ k. k < (self.now.states - 1) * self.now.classes) }
+    {
         for state in 1..self.states {
-            if set.has(state) {
-                if let Some(class) = self.first_exit(true, state) {
-                    return Some((state - 1) * self.classes + class);
-                }
+            if let Some(class) = first(state) {
+                return Some((state - 1) * self.classes + class);
             }
         }
         None

@@ -1,17 +1,11 @@
-ghost use Rattle.std.specs.Prelude.{ℕ, ◌<◌, ◌≤◌, false, ◌⊎◌, Decides};
+ghost use Rattle.std.specs.Prelude.{ℕ, ◌<◌, ◌≤◌, false, ◌⊎◌};
 ghost use Rattle.automata.specs.Sets.{Has};
-ghost use Rattle.automata.specs.Reach.{Goes, Leads, From, Step};
+ghost use Rattle.automata.specs.Reach.{Leads, From, Step};
 ghost use Rattle.automata.specs.Parts.{code_of};
 
 use super::StateTable;
+use crate::code::Code;
 use crate::state_set::StateSet;
-
-/// Whether a code goes on: it does not exit and, where only quiet codes are asked for, does not mark.
-pub(super) fn goes(quiet: bool, x: u8) -> bool
-    ensures { Decides result (Goes quiet x) }
-{
-    (x % 128) / 2 != 0 && (x < 128 || !quiet)
-}
 
 impl StateTable<'_> {
     /// The set with each state that a code of `state` leads to.
@@ -23,10 +17,10 @@ impl StateTable<'_> {
         ensures only { (k : ℕ) → Has result.bits k → Has set.bits k ⊎ Step quiet (code_of self.now) self.now.classes state k }
     {
         let mut all = set;
-        for class in 0..self.classes {
-            let x = self.code(state, class);
-            if goes(quiet, x) {
-                all = all.with((x % 128) as usize / 2);
+        for byte in self.row(state) {
+            let code = Code::new(*byte);
+            if code.goes(quiet) {
+                all = all.with(code.next());
             }
         }
         all
@@ -40,6 +34,7 @@ impl StateTable<'_> {
         ensures only { (k : ℕ) → Has result.bits k → From quiet (code_of self.now) self.now.classes set.bits k }
     {
         let mut all = set;
+        // no iterator over the states of a set: `all` grows while its states are read, which saves passes
         for state in 1..self.states {
             if all.has(state) {
                 all = self.spread(quiet, state, all);

@@ -1,8 +1,9 @@
 ghost use Rattle.std.specs.Prelude.{◌≡◌, ℕ, ◌-◌, ◌*◌, ◌<◌, ◌≤◌, length, slice_index};
 ghost use Rattle.automata.specs.Machine.{next};
-ghost use Rattle.automata.specs.Parts.{code_of};
+ghost use Rattle.automata.specs.Parts.{code_of, IsRow};
 
 use super::StateTable;
+use crate::code::Code;
 
 impl<'a> StateTable<'a> {
     /// The table of these codes.
@@ -19,11 +20,20 @@ impl<'a> StateTable<'a> {
     }
 
     /// The code of a state and a class.
-    pub fn code(&self, state: usize, class: usize) -> u8
+    pub fn code(&self, state: usize, class: usize) -> Code
         requires { (1 ≤ state) × ((state < self.now.states) × (class < self.now.classes)) }
         ensures value { result ≡ code_of self.now state class }
         ensures below { next result < self.now.states }
     {
-        self.codes[(state - 1) * self.classes + class]
+        Code::new(self.codes[(state - 1) * self.classes + class])
+    }
+
+    /// The codes of a state, a byte for each class.
+    pub(super) fn row(&self, state: usize) -> &[u8]
+        requires { (1 ≤ state) × (state < self.now.states) }
+        ensures { IsRow (code_of self.now state) self.now.classes result.now }
+    {
+        let start = (state - 1) * self.classes;
+        &self.codes[start..start + self.classes]
     }
 }

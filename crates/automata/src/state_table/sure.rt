@@ -1,18 +1,11 @@
 ghost use Rattle.std.specs.Prelude.{◌≡◌, ℕ, ◌/◌, ◌%◌, ◌^◌, ◌<◌, ◌≤◌, false, Decides, ◌==◌};
 ghost use Rattle.automata.specs.Sets.{Has};
-ghost use Rattle.automata.specs.Sure.{Ends, Follows, Stops, Sure, holds};
+ghost use Rattle.automata.specs.Sure.{Follows, Stops, HaltsIn, Sure, holds};
 ghost use Rattle.automata.specs.Parts.{code_of};
 
 use super::StateTable;
 use crate::state_set::StateSet;
 use crate::sure_pairs::SurePairs;
-
-/// Whether a code marks and exits.
-fn ends(x: u8) -> bool
-    ensures { Decides result (Ends x) }
-{
-    x >= 128 && (x % 128) / 2 == 0
-}
 
 impl StateTable<'_> {
     /// The states that a class leads to from the states of the set without exit.
@@ -24,9 +17,9 @@ impl StateTable<'_> {
         let mut all = StateSet::empty();
         for state in 1..self.states {
             if set.has(state) {
-                let follower = (self.code(state, class) % 128) as usize / 2;
-                if follower != 0 {
-                    all = all.with(follower);
+                let code = self.code(state, class);
+                if !code.exits() {
+                    all = all.with(code.next());
                 }
             }
         }
@@ -38,14 +31,7 @@ impl StateTable<'_> {
         requires { class < self.now.classes }
         ensures { Decides result (Stops (code_of self.now) self.now.states set.bits class) }
     {
-        for state in 1..self.states {
-            if set.has(state) {
-                if !ends(self.code(state, class)) {
-                    return false;
-                }
-            }
-        }
-        true
+        (1..self.states).all(|state| !set.has(state) || self.code(state, class).ends())
     }
 
     /// The classes that mark and exit in every state of the set, as bits.
@@ -62,6 +48,19 @@ impl StateTable<'_> {
         row
     }
 
+    /// The classes b, as bits, for which class a exits in every state of the set, or leads to a state in which b marks and exits;
+    /// none where a is no class.
+    fn halt_row(&self, set: StateSet, a: usize) -> u128
+        ensures within { a < self.now.classes → (b : ℕ) → b < self.now.classes → Decides (result / 2 ^ b % 2 == 1) (HaltsIn (code_of self.now) self.now.states set.bits a b) }
+        ensures beyond { (b : ℕ) → self.now.classes ≤ b → result / 2 ^ b % 2 ≡ 0 }
+        ensures none { self.now.classes ≤ a → result ≡ 0 }
+    {
+        if a >= self.classes {
+            return 0;
+        }
+        self.stop_row(self.after(set, a))
+    }
+
     /// The sure pairs: (a, b) is one where, in every state that is reached, class a exits
     /// or leads to a state in which class b marks and exits.
     pub fn sure_pairs(&self) -> SurePairs
@@ -71,8 +70,8 @@ impl StateTable<'_> {
     {
         let reached = self.reach();
         let mut rows = [0; 128];
-        for a in 0..self.classes {
-            rows[a] = self.stop_row(self.after(reached, a));
+        for (a, row) in rows.iter_mut().enumerate() {
+            *row = self.halt_row(reached, a);
         }
         SurePairs::new(rows)
     }

@@ -1,6 +1,6 @@
 ghost use Rattle.std.specs.Prelude.{◌≡◌, ℕ, ◌+◌, ◌-◌, ◌<◌, ◌≤◌, true, [], ◌∷◌, ◌++◌, length, take, None, MatchOption};
 ghost use Rattle.std.specs.List.{insert as inserted, remove};
-ghost use Rattle.pins.specs.Order.{rising, insert, without, pin_at};
+ghost use Rattle.pins.specs.Order.{rising, insert, without, pin_at, IsInside};
 ghost use Rattle.pins.specs.Kept.{kept};
 
 use super::Pins;
@@ -37,23 +37,19 @@ impl Pins {
     {
         Pins {
             size,
-            entries: [Pin {
-                place: 0,
-                number: 0,
-            }; 64],
+            entries: [Pin::default(); 64],
             count: 0,
         }
     }
 
     /// The pins with one more, unless one is at its place already; None where that would be the 65th.
     pub fn with(self, pin: Pin) -> Option<Pins>
-        requires { (pin.number ≤ pin.place) × (pin.place < self.size) }
+        requires { IsInside self.size pin }
         ensures { MatchOption result ((length (kept self) ≡ 64) × (pin_at pin.place (kept self) ≡ None)) (λ p. (kept p ≡ insert pin (kept self)) × (p.size ≡ self.size) × (pin_at pin.place (kept self) ≡ None → length (kept self) < 64)) }
     {
-        let k = self.rank(pin.place);
-        if k < self.count && self.entries[k].place == pin.place {
+        let Err(k) = self.spot(pin.place) else {
             return Some(self);
-        }
+        };
         if self.count >= MOST {
             return None;
         }
@@ -70,10 +66,9 @@ impl Pins {
         ensures value { kept result ≡ without place (kept self) }
         ensures size { result.size ≡ self.size }
     {
-        let k = self.rank(place);
-        if k >= self.count || self.entries[k].place != place {
+        let Ok(k) = self.spot(place) else {
             return self;
-        }
+        };
         let entries = take_out(self.entries, self.count, k);
         Pins {
             size: self.size,

@@ -1,6 +1,5 @@
-ghost use Rattle.std.specs.Prelude.{◌≡◌, ℕ, ◌<◌, ◌≤◌, length, IfSome, MatchOption, slice_index_or};
-ghost use Rattle.std.specs.List.{prefix_len};
-ghost use Rattle.pins.specs.Order.{nought, below, up_to, numbered_up_to, pin_at, last_by};
+ghost use Rattle.std.specs.Prelude.{◌≡◌, ◌<◌, ◌≤◌, length, IfSome, MatchOption, slice_index_or};
+ghost use Rattle.pins.specs.Order.{nought, up_to, numbered_up_to, pin_at, last_by, IsInside, IsSpot};
 ghost use Rattle.pins.specs.Kept.{kept};
 
 use super::Pins;
@@ -15,80 +14,69 @@ impl Pins {
         self.size
     }
 
+    /// The pins, in the order of their places.
+    pub fn as_slice(&self) -> &[Pin]
+        ensures { result.now ≡ kept self.now }
+    {
+        &self.entries[..self.count]
+    }
+
     /// How many pins there are.
     pub fn len(&self) -> usize
         ensures value { result ≡ length (kept self.now) }
         ensures few { result ≤ 64 }
     {
-        self.entries[..self.count].len()
+        self.as_slice().len()
     }
 
     /// The pin of an index, in the order of their places.
     pub fn get(&self, k: usize) -> Option<Pin>
         ensures value { MatchOption result (length (kept self.now) ≤ k) (λ p. (k < length (kept self.now)) × (p ≡ slice_index_or (kept self.now) k nought)) }
-        ensures inside { IfSome result (λ p. (p.number ≤ p.place) × (p.place < self.now.size)) }
+        ensures inside { IfSome result (IsInside self.now.size) }
     {
-        if k < self.count {
-            Some(self.entries[k])
-        } else {
-            None
-        }
+        self.as_slice().get(k).copied()
     }
 
-    // How many pins lie below a place.
-    pub(super) fn rank(&self, place: usize) -> usize
-        ensures within { result ≤ self.now.count }
-        ensures value { result ≡ prefix_len (below place) (kept self.now) }
+    // The index of the pin at a place, or the index where one would go in.
+    pub(super) fn spot(&self, place: usize) -> Result<usize, usize>
+        ensures { IsSpot place (kept self.now) result }
     {
-        let mut k = 0;
-        while k < self.count && self.entries[k].place < place {
-            k += 1;
-        }
-        k
+        self.as_slice()
+            .binary_search_by_key(&place, |pin| pin.place)
     }
 
     /// The pin at a place.
     pub fn at(&self, place: usize) -> Option<Pin>
         ensures value { result ≡ pin_at place (kept self.now) }
-        ensures inside { IfSome result (λ p. (p.number ≤ p.place) × (p.place < self.now.size)) }
+        ensures inside { IfSome result (IsInside self.now.size) }
     {
-        let k = self.rank(place);
-        if k < self.count && self.entries[k].place == place {
-            Some(self.entries[k])
-        } else {
-            None
+        match self.spot(place) {
+            Ok(k) => self.get(k),
+            Err(_) => None,
         }
     }
 
     /// The nearest pin that is not above a place.
     pub fn nearest(&self, place: usize) -> Option<Pin>
         ensures value { result ≡ last_by (up_to place) (kept self.now) }
-        ensures inside { IfSome result (λ p. (p.number ≤ p.place) × (p.place < self.now.size) × (p.place ≤ place)) }
+        ensures inside { IfSome result (λ p. IsInside self.now.size p × (p.place ≤ place)) }
     {
-        let mut k = self.count;
-        while k > 0 && self.entries[k - 1].place > place {
-            k -= 1;
-        }
-        if k == 0 {
-            None
-        } else {
-            Some(self.entries[k - 1])
-        }
+        self.as_slice()
+            .iter()
+            .rev()
+            .find(|pin| pin.place <= place)
+            .copied()
     }
 
     /// The last pin whose number is not above a number.
     pub fn nearest_numbered(&self, number: usize) -> Option<Pin>
         ensures value { result ≡ last_by (numbered_up_to number) (kept self.now) }
-        ensures inside { IfSome result (λ p. (p.number ≤ p.place) × (p.place < self.now.size) × (p.number ≤ number)) }
+        ensures inside { IfSome result (λ p. IsInside self.now.size p × (p.number ≤ number)) }
     {
-        let mut k = self.count;
-        while k > 0 && self.entries[k - 1].number > number {
-            k -= 1;
-        }
-        if k == 0 {
-            None
-        } else {
-            Some(self.entries[k - 1])
-        }
+        self.as_slice()
+            .iter()
+            .rev()
+            .find(|pin| pin.number <= number)
+            .copied()
     }
 }

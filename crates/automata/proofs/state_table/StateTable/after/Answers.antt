@@ -1,31 +1,49 @@
-use Rattle.std.proofs.Common.{◌+◌, sym, ap, ◌∙◌, subst}
-use Rattle.std.proofs.lemmas.Bool.{both_ways}
+use Rattle.std.proofs.Common.{◌≡◌, ℕ, ◌+◌, ◌≤◌, sym, ap, ◌∙◌, subst, inl, inr, arith}
+use Rattle.std.proofs.lemmas.Bool.{both_ways, eqb-false, eqb-true}
 use Rattle.automata.specs.Machine.{next}
+use Rattle.automata.specs.Sets.{Has}
 use Rattle.automata.specs.Parts.{code_of}
 use Rattle.automata.specs.declared.state_set.StateSet.{StateSet}
-use Rattle.automata.proofs.Sures.{Afters, after_goes, after_skips}
+use Rattle.automata.proofs.Gathers.{Gathers, gather_goes, gather_skips}
 use Rattle.automata.proofs.state_table.StateTable.after.Goals as goal
-use Rattle.automata.proofs.state_table.StateTable.after.Goals.{then-has+then-follower-ne0, then-has+else-follower-ne0, else-has}
+use Rattle.automata.proofs.state_table.StateTable.after.Goals.{then-has+then-not-exits, then-has+else-not-exits, else-has}
+
+pub loop-state-init : goal.loop-state-init
+loop-state-init c = (omega arith, λ k h. h, λ s lt p. absurd (omega (arith, p.0)), λ k h. inl h)
 
 pub loop-state-preserved : goal.loop-state-preserved
 loop-state-preserved c =
-    let code = code_of c.args.self.now in
-    let S = c.args.self.now.states in
-    let set = c.args.set.bits in
+    let table = c.args.self.now in
     let state = c.loop-state.state in
+    let start = c.empty-all.result.bits in
     let all = c.loop-state.all.bits in
-    let Turned : StateSet → Type 0 = λ all. Afters code S set c.args.class (state + 1) all.bits in
+    let to : ℕ → ℕ = λ s. next (code_of table s c.args.class) in
+    let P : ℕ → Type 0 = λ s. (1 ≤ s) × Has c.args.set.bits s × (to s ≡ 0 → ⊥) in
+    let Turned : StateSet → Type 0 = λ set. Gathers table.states P to start (state + 1) set.bits in
     elim c.if-has.branch [
-      | then-has+then-follower-ne0 w ↦
+      | then-has+then-not-exits w ↦
           let e = w.with-all.ensures in
+          let x = ap next w.code-code.ensures.value in
           subst Turned (sym w.all-is)
-          (after_goes code S set c.args.class state all w.with-all.result.bits w.code.result c.loop-state.auto.state c.loop-state-test.true
-          (c.has.ensures.0 w.if-has.true) w.code.ensures.value w.if-follower-ne0.true c.loop-state.invariant (e.grows, e.adds, e.keeps, e.only))
-      | then-has+else-follower-ne0 w ↦
+          (gather_goes table.states P to start state all w.with-all.result.bits w.next.result c.loop-state-test.true (w.next.ensures.value ∙ x)
+          (c.loop-state.auto.state, c.has.ensures.0 w.if-has.true, λ z. eqb-false _ 0 (sym w.exits.ensures ∙ w.if-not-exits.true) (x ∙ z))
+          c.loop-state.invariant (e.grows, e.adds, e.keeps, e.only))
+      | then-has+else-not-exits w ↦
           subst Turned (sym w.all-is)
-          (after_skips code S set c.args.class state all
-          (λ _. sym (ap next w.code.ensures.value) ∙ w.if-follower-ne0.false) c.loop-state.invariant)
+          (gather_skips table.states P to start state all
+          (λ p. p.2 (sym (ap next w.code-code.ensures.value) ∙ eqb-true _ 0 (sym w.exits.ensures ∙ w.if-not-exits.false))) c.loop-state.invariant)
       | else-has w ↦
           subst Turned (sym w.all-is)
-          (after_skips code S set c.args.class state all (λ h. absurd (both_ways _ w.if-has.false (c.has.ensures.1 h))) c.loop-state.invariant)
+          (gather_skips table.states P to start state all (λ p. both_ways _ w.if-has.false (c.has.ensures.1 p.1)) c.loop-state.invariant)
     ]
+
+pub returns : goal.returns
+returns c =
+    let i = c.loop-state.invariant in
+    record {
+      sound = λ k h. elim (i.3 k h) [
+        | inl z ↦ absurd (c.empty-all.ensures k z)
+        | inr p ↦ (p.0, p.2.0, p.1, p.2.1, p.2.2, p.3)
+      ];
+      complete = λ k f. subst (Has c.loop-state.all.bits) f.5 (i.2 f.0 (omega (arith, f.2)) (f.1, f.3, f.4));
+    }

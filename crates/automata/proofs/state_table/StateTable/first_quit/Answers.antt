@@ -1,18 +1,13 @@
-use Rattle.std.proofs.Common.{◌-◌, refl, arith}
-use Rattle.std.proofs.lemmas.Nat.{mul-add-lt}
+use Rattle.std.proofs.Common.{rules}
+use borrow.Author.Tests.{tests}
+use Rattle.automata.specs.Stuck.{QuitsOn}
 use Rattle.automata.specs.Parts.{code_of}
-use Rattle.automata.proofs.Stucks.{quit_least}
+use Rattle.automata.proofs.Stucks.{least_code, least_same}
 use Rattle.automata.proofs.state_table.StateTable.first_quit.Goals as goal
 
-pub returns-in-Some : goal.returns-in-Some
-returns-in-Some c =
+pub returns-clause-least : goal.returns-clause-least
+returns-clause-least c =
     let table = c.args.self.now in
-    let state = c.loop-state.state in
-    let e = c.in-Some.ensures in
-    record {
-      least = (
-        (state, c.in-Some.class, c.loop-state.auto.state, c.loop-state-test.true, c.has.ensures.0 c.if-has.true, e.0, refl),
-        quit_least (code_of table) table.classes table.states c.args.set.bits state c.in-Some.class c.loop-state.auto.state e.0.0 c.loop-state.invariant e.1,
-      );
-      within = omega (arith, mul-add-lt (state - 1) table.classes c.in-Some.class (table.states - 1) (omega arith) e.0.0);
-    }
+    least_same _ _ (λ k q. (q.0, q.1, q.2, q.3, q.4.0, q.4.1, q.5)) (λ k q. (q.0, q.1, q.2, q.3, (q.4, q.5), q.6)) c.first_code.result
+    (least_code (QuitsOn (code_of table) table.classes c.args.set.bits) table.states table.classes c.first_code.result c.first_code.ensures.first
+    (λ s r lo hi g. search (rules, tests)) (λ s d p. p.1.0))

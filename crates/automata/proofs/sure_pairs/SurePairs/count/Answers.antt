@@ -1,18 +1,20 @@
-use Rattle.std.proofs.Common.{◌^◌, ◌<◌, get_or, sym, arith, rules}
-use Rattle.std.proofs.lemmas.Nat.{ones-le}
-use Rattle.automata.specs.Sure.{holds}
-use Rattle.automata.proofs.Counts.{ones_row, pairs_none, pairs_more}
+use Rattle.std.proofs.Common.{◌^◌, ◌∙◌, arith, rules}
+use Rattle.std.proofs.lemmas.Iterator.{YieldsList-from_slice, YieldsList-from_map}
+use Rattle.std.proofs.lemmas.Iterator.Adapters.{fits_from_length, at_most_from_yields_List}
+use Rattle.std.proofs.lemmas.Iterator.Consumers.{sum_by_from_yields_List}
+use borrow.Author.Tests.{tests}
+use lib.Count.{ones}
+use Rattle.automata.proofs.Counts.{rows_counted}
 use Rattle.automata.proofs.sure_pairs.SurePairs.count.Goals as goal
 
-pub loop-row-init : goal.loop-row-init
-loop-row-init c = (sym (pairs_none (holds c.args.self.now.rows) 128), omega arith)
+pub sum-requires-clause-fits : goal.sum-requires-clause-fits
+sum-requires-clause-fits c =
+    fits_from_length _ _ 128 (2 ^ 64) (at_most_from_yields_List (YieldsList-from_slice c.args.self.now.rows cc) (search rules)) c.map.ensures.closure (omega arith)
+    (λ x r q k. search (rules, tests))
 
-pub loop-row-preserved : goal.loop-row-preserved
-loop-row-preserved c =
+pub returns : goal.returns
+returns c =
     let rows = c.args.self.now.rows in
-    let row = get_or rows c.loop-row.row-index 0 in
-    let fits : row < 2 ^ 128 = search rules in
-    let few = ones-le 128 row fits in
-    let one = ones_row 128 row fits in
-    let more = pairs_more (holds rows) 128 c.loop-row.row-index in
-    (omega arith, omega arith)
+    sum_by_from_yields_List ones rows c.map.result c.sum.result c.sum.ensures.ran
+    (YieldsList-from_map _ ones (YieldsList-from_slice rows cc) c.map.ensures.closure (λ x r q k. search (rules, tests)))
+    ∙ rows_counted rows (search rules) (search rules)

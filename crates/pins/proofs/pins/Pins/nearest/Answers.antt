@@ -1,24 +1,21 @@
-use Rattle.std.proofs.Common.{◌-◌, ◌≤◌, get_or, ◌∙◌, arith, rules}
-use Rattle.std.proofs.lemmas.Bool.{le-leb, lt-leb}
-use Rattle.pins.specs.Order.{up_to, nought}
-use Rattle.pins.proofs.Rising.{low_at, T_true}
-use Rattle.pins.proofs.Lasts.{last_here, last_before}
+use Rattle.std.proofs.Common.{◌≡◌, ◌∙◌, rules}
+use Rattle.std.proofs.lemmas.Bool.{leb-true}
+use Rattle.std.proofs.lemmas.Iterator.Adapters.{YieldsList-from_rev_slice}
+use Rattle.std.proofs.lemmas.Iterator.Search.{find_from_yields_List}
+use Rattle.std.proofs.lemmas.Option.{IfSome_then}
+use borrow.Author.Tests.{tests}
+use Rattle.pins.specs.Order.{up_to, last_by}
+use Rattle.pins.specs.Kept.{kept}
+use Rattle.pins.proofs.Rising.{T_true}
+use Rattle.pins.proofs.Lasts.{last_is_found, last_inside}
 use Rattle.pins.proofs.pins.Pins.nearest.Goals as goal
-use Rattle.pins.proofs.pins.Pins.nearest.Goals.{then-loop-k-test+else-self-k, else-loop-k-test}
 
-pub loop-k-preserved : goal.loop-k-preserved
-loop-k-preserved c =
+pub returns : goal.returns
+returns c =
     let p = c.args.self.now in
-    (omega arith, last_before (up_to c.args.place) p.entries c.loop-k.k (search rules) (search rules) (lt-leb _ _ (search rules)) ∙ c.loop-k.invariant.1)
-
-pub returns-else-k-eq0 : goal.returns-else-k-eq0
-returns-else-k-eq0 c =
-    let p = c.args.self.now in
-    let k = c.loop-k.k in
-    let passes : (get_or p.entries (c.loop-k.k - 1) nought).place ≤ c.args.place =
-    elim c.loop-k-test.branch [ then-loop-k-test+else-self-k w ↦ w.if-self-k.false | else-loop-k-test w ↦ absurd (omega (arith, w.loop-k-test.false)) ] in
-    let inside = low_at p.entries p.count (search rules) p.size (T_true _ p.ordered) (c.loop-k.k - 1) (omega arith) in
+    let found = find_from_yields_List (up_to c.args.place) _ _ c.find.result c.find.ensures.ran (YieldsList-from_rev_slice (kept p) cc) (λ x b q k. search (rules, tests)) in
+    let value : c.copied.result ≡ last_by (up_to c.args.place) (kept p) = c.copied.ensures ∙ found ∙ last_is_found (up_to c.args.place) (kept p) in
     record {
-      value = last_here (up_to c.args.place) p.entries c.loop-k.k (search rules) (search rules) (le-leb _ _ passes) ∙ c.loop-k.invariant.1;
-      inside = (inside.0, inside.1, passes);
+      value = value;
+      inside = IfSome_then c.copied.result (last_inside p.size (up_to c.args.place) (kept p) c.copied.result (T_true _ p.ordered) value) (λ q h. (h.0, leb-true _ _ h.1));
     }

@@ -4,33 +4,29 @@ use Rattle.pins.specs.Order.{insert}
 use Rattle.pins.specs.Kept.{kept}
 use Rattle.pins.proofs.Rising.{there, nowhere, put_again, put_new, rising_insert, T_true, true_T}
 use Rattle.pins.proofs.pins.Pins.with.Goals as goal
-use Rattle.pins.proofs.pins.Pins.with.Goals.{else-k-self-via-then-k-self+else-self-k, else-k-self-via-else-k-self, After-put_in-entries}
+use Rattle.pins.proofs.pins.Pins.with.Goals.{After-put_in-entries}
 
-pub returns-then-self-k : goal.returns-then-self-k
-returns-then-self-k c =
-    let p = c.args.self in (
-      put_again p.entries p.count (search rules) c.args.pin c.rank-k.result (search rules) c.if-k-self.true c.if-self-k.true,
+pub returns-in_default : goal.returns-in_default
+returns-in_default c =
+    let p = c.args.self in
+    let pin = c.args.pin in
+    let k = c.in_default.field-0 in (
+      sym (put_again p.size pin.place (kept p) (T_true _ p.ordered) k c.in_default.ensures pin refl),
       refl,
       λ none.
-          let some = (there p.entries p.count (search rules) c.args.pin.place c.rank-k.result (search rules) c.if-k-self.true c.if-self-k.true).1 in
-          let bad = sym none ∙ some in
+          let bad = sym none ∙ (there p.size pin.place (kept p) (T_true _ p.ordered) k c.in_default.ensures).1 in
           absurd (let z : ◌≡◌ {A = ℕ} 0 1 = cc in omega arith),
     )
 
 pub returns-then-self-ge-MOST : goal.returns-then-self-ge-MOST
 returns-then-self-ge-MOST c =
-    let p = c.args.self in (
-      search (rules, length-take-le),
-      (nowhere p.size p.entries p.count c.args.pin.place c.rank-k.result (search rules) (T_true _ p.ordered)
-          (λ h e. elim c.else-k-self.branch [ else-k-self-via-then-k-self+else-self-k w ↦ w.if-self-k.false e | else-k-self-via-else-k-self w ↦ omega (arith, w.if-k-self.false) ])).1,
-    )
+    let p = c.args.self in
+    (search (rules, length-take-le), (nowhere p.size c.args.pin.place (kept p) (T_true _ p.ordered) c.in-Err.k c.in-Err.ensures).1)
 
 now-is : (c : goal.After-put_in-entries) → take (c.args.self.count + 1) c.put_in-entries.result ≡ insert c.args.pin (kept c.args.self)
 now-is c =
     let p = c.args.self in
-    put_new p.entries p.count (search rules) c.args.pin c.rank-k.result (search rules) c.put_in-entries.result
-    (λ h e. elim c.else-k-self.branch [ else-k-self-via-then-k-self+else-self-k w ↦ w.if-self-k.false e | else-k-self-via-else-k-self w ↦ omega (arith, w.if-k-self.false) ])
-    c.put_in-entries.ensures
+    c.put_in-entries.ensures ∙ sym (put_new p.size c.args.pin.place (kept p) (T_true _ p.ordered) c.in-Err.k c.in-Err.ensures c.args.pin refl)
 
 pub invariant_of-result : goal.invariant_of-result
 invariant_of-result c =
