@@ -1,5 +1,5 @@
 -- What an entry of the class table says.
-use Rattle.std.proofs.Common.{◌≡◌, ℕ, ◌-◌, ◌<◌, ◌≤◌, refl}
+use Rattle.std.proofs.Common.{◌≡◌, ℕ, ◌≤◌, refl}
 use Rattle.tables.specs.declared.entry.Entry.{Entry}
 use Rattle.tables.specs.declared.entry.Entry.TheVariants.{Class, Odd, Even}
 use Rattle.tables.specs.Entries.{Reads}

@@ -23,7 +23,9 @@ impl Parts<'_> {
         requires { at + 256 ≤ length self.now.bytes.now }
         ensures { result ≡ every (λ y. is_class self.now.bytes.now (byte (take 256 (drop at self.now.bytes.now)) y)) 256 }
     {
-        self.bytes[at..at + 256].iter().all(|entry| self.is_class(signed(*entry)))
+        self.bytes[at..at + 256]
+            .iter()
+            .all(|entry| self.is_class(signed(*entry)))
     }
 
     // Whether what stands under an entry of the class table is sound.

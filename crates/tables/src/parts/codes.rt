@@ -3,13 +3,14 @@ ghost use Rattle.tables.specs.Layout.{code_place, code_count};
 ghost use Rattle.tables.specs.Checks.{Checked, code_sound, code_checks};
 
 use super::Parts;
+use automata::code::Code;
 use refusals::{Direction, Refusal};
 
 // Whether a code is even and names one of so many states.
 fn code_is_sound(code: u8, states: usize) -> bool
     ensures { result ≡ code_sound states code }
 {
-    code % 2 == 0 && usize::from(code % 128 / 2) < states
+    code % 2 == 0 && Code::new(code).next() < states
 }
 
 impl Parts<'_> {

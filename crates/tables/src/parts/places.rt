@@ -84,7 +84,8 @@ impl<'a> Parts<'a> {
         ensures bound { result ≤ 32768 }
     {
         let at = self.table_place(Direction::Forward);
-        self.magnitude(at + 4).saturating_sub(self.magnitude(at + 2))
+        self.magnitude(at + 4)
+            .saturating_sub(self.magnitude(at + 2))
     }
 
     /// Where the codes of a state table begin.

@@ -15,6 +15,7 @@ use crate::lead::Lead;
 use crate::passed::Passed;
 use crate::verdict::Summary;
 use crate::words::word;
+use automata::code::Code;
 use automata::state_table::StateTable;
 use refusals::Direction;
 
@@ -34,12 +35,14 @@ impl Table {
     }
 
     /// The code of a state and a class in the forward table.
-    pub fn code(&self, state: usize, class: usize) -> u8
+    pub fn code(&self, state: usize, class: usize) -> Code
         requires { (1 ≤ state) × ((state < states (bytes_of self.now) Forward) × (class < classes (bytes_of self.now))) }
         ensures value { result ≡ machine (bytes_of self.now) Forward state class }
         ensures below { next result < states (bytes_of self.now) Forward }
     {
-        self.bytes[self.layout.code_start + (state - 1) * self.layout.class_total + class]
+        Code::new(
+            self.bytes[self.layout.code_start + (state - 1) * self.layout.class_total + class],
+        )
     }
 
     /// Whether a pair of classes is sure.

@@ -1,4 +1,4 @@
-use Rattle.std.proofs.Common.{◌≡◌, ℕ, ◌+◌, ◌-◌, ◌≤◌, Bool, true, ◌&&◌, List, take, drop, ℤ, pos, sym, ap, ◌∙◌, arith, w32, to_z}
+use Rattle.std.proofs.Common.{◌≡◌, ℕ, ◌+◌, ◌≤◌, Bool, ◌&&◌, List, take, drop, ℤ, pos, sym, ap, ◌∙◌, arith, w32, to_z}
 use Rattle.tables.specs.Words.{byte}
 use Rattle.tables.specs.Layout.{fits, auxiliary}
 use Rattle.tables.specs.Classes.{is_class, every, row_start, even_class}

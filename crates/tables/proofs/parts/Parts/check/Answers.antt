@@ -1,4 +1,4 @@
-use Rattle.std.proofs.Common.{◌≡◌, ℕ, Bool, true, false, not, ◌||◌, List, [], ◌∷◌, length, leb, get_or, ℤ, Some, sym, ap, ◌∙◌, arith, w16, SFits, to_z, of_z, rules}
+use Rattle.std.proofs.Common.{◌≡◌, ℕ, Bool, true, false, not, ◌||◌, List, [], ◌∷◌, length, leb, get_or, ℤ, sym, ap, ◌∙◌, w16, SFits, to_z, of_z, rules}
 use Rattle.std.proofs.lemmas.Bool.{cond-true, cond-false, le-leb}
 use Rattle.std.proofs.lemmas.Int.{to_z-of_z}
 use Rattle.refusals.specs.declared.Refusal.TheVariants.{OffsetOutside}

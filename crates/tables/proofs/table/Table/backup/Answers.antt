@@ -1,4 +1,4 @@
-use Rattle.std.proofs.Common.{◌≡◌, ℕ, ◌≤◌, List, length, ap, arith}
+use Rattle.std.proofs.Common.{length, ap, arith}
 use Rattle.tables.specs.Meaning.{bytes_of}
 use Rattle.tables.proofs.Kept.{table_passes}
 use Rattle.tables.proofs.Tabled.{header_passes}

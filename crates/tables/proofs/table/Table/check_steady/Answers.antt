@@ -1,4 +1,4 @@
-use Rattle.std.proofs.Common.{◌≡◌, ℕ, ◌+◌, List, sym, ap, ◌∙◌, arith, rules}
+use Rattle.std.proofs.Common.{◌≡◌, ℕ, ◌+◌, List, ap, ◌∙◌, arith, rules}
 use Rattle.refusals.specs.declared.Direction.TheVariants.{Backward}
 use Rattle.automata.specs.Parts.{code_of}
 use Rattle.tables.specs.Layout.{machine, classes, code_place}

@@ -51,6 +51,6 @@ returns c =
     ∙ ap (λ (n : ℕ). get_or b n 0) (place t s k c.requires.0 c.requires.1.0 c.requires.1.1)
     ∙ sym (code_value b (table_passes t) Forward s k c.requires.0 c.requires.1.0 c.requires.1.1) in
     record {
-      value = value;
-      below = subst (λ (x : ℕ). next x < states b Forward) (sym value) (code_below b (table_passes t) Forward s k c.requires.0 c.requires.1.0 c.requires.1.1);
+      value = c.new.ensures ∙ value;
+      below = subst (λ (x : ℕ). next x < states b Forward) (sym (c.new.ensures ∙ value)) (code_below b (table_passes t) Forward s k c.requires.0 c.requires.1.0 c.requires.1.1);
     }

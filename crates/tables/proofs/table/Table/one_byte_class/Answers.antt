@@ -1,4 +1,4 @@
-use Rattle.std.proofs.Common.{◌≡◌, ◌-◌, ◌≤◌, false, pos, negsuc, sym, ap, ◌∙◌, arith}
+use Rattle.std.proofs.Common.{◌≡◌, ◌-◌, false, negsuc, sym, ap, ◌∙◌, arith}
 use lib.Signed.{non_neg}
 use Rattle.std.proofs.lemmas.Bool.{cond-false, and_parts}
 use Rattle.tables.specs.Layout.{two_byte}
