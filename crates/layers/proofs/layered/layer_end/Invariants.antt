@@ -1,7 +1,7 @@
 use Rattle.std.proofs.Common.{◌≡◌, ◌+◌, ◌-◌, ◌<◌, ◌≤◌, length, drop}
 use Rattle.layers.specs.Layers.{layer_run}
 use Rattle.layers.specs.LayerLaws.{ends_from}
-use Rattle.layers.proofs.layers.layer_end.Given as goal
+use Rattle.layers.proofs.layered.layer_end.Given as goal
 
 -- the runs below up to `at` are one run of the layer so far, and what is behind them gives its end
 abbrev pub invariant-loop-at : goal.invariant-loop-at

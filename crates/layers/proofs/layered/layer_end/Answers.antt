@@ -3,7 +3,7 @@ use Rattle.std.proofs.lemmas.Bool.{cond-true, and_from, lt-ltb}
 use Rattle.rules.specs.Cuts.{end_inside}
 use Rattle.rules.proofs.Lawful.{accepted}
 use Rattle.layers.specs.LayerLaws.{ends_more}
-use Rattle.layers.proofs.layers.layer_end.Goals as goal
+use Rattle.layers.proofs.layered.layer_end.Goals as goal
 
 pub loop-at-init : goal.loop-at-init
 loop-at-init g c =
