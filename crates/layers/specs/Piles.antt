@@ -1,5 +1,6 @@
 -- Piles: any layers over a rule, one over the other, the lowest first.
-use Rattle.std.specs.Prelude.{ℕ, Bool, false, ◌||◌, List, [], ◌∷◌}
+use Rattle.std.specs.Prelude.{ℕ, Bool, List, [], ◌∷◌}
+use Rattle.std.specs.List.{list_any}
 use Rattle.layers.specs.Layers.{joint_glues, tail_glues, layer_run, layer_parts}
 use Rattle.layers.specs.declared.pile.Layer.{Layer}
 use Rattle.layers.specs.declared.pile.Layer.TheVariants.{Joint, Tail}
@@ -21,5 +22,4 @@ pile_parts (l ∷ ls) parts = pile_parts ls (layer_parts (glues_of l) parts)
 
 -- whether any layer glues
 abbrev pub any_glues : List Layer → ℕ → ℕ → Bool
-any_glues [] before after = false
-any_glues (l ∷ ls) before after = glues_of l before after || any_glues ls before after
+any_glues ls before after = list_any (λ l. glues_of l before after) ls

@@ -1,8 +1,10 @@
-//! Layers over any rule: the joint layer, the tail layer, and piles of them.
+//! Layers over any rule: one layer with its seam, the joint layer or the tail layer, and piles of them.
 #![tactic(auto)]
 
-mod layers;
+mod layered;
 mod pile;
+mod seams;
 
-pub use layers::{Joint, Tail};
+pub use layered::Layered;
 pub use pile::{Layer, Pile};
+pub use seams::{Joint, Seam, Tail};

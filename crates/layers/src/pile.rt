@@ -2,12 +2,13 @@ ghost use Rattle.std.specs.Prelude.{List};
 ghost use Rattle.layers.specs.Piles.{glues_of, any_glues, pile_run, pile_parts};
 ghost use Rattle.layers.specs.PileLaws.{pile_bounded, pile_joins};
 
-use crate::layers::{Seam, layer_end, layer_wall};
+use crate::layered::{layer_end, layer_wall};
+use crate::seams::{Joint, Seam, Tail};
 use refusals::Refusal;
 use rules::Rule;
 
 /// A layer of a pile, with its byte.
-#[derive(Clone, Copy)]
+#[derive(Clone, Copy, PartialEq, Eq, Debug)]
 pub enum Layer {
     /// Glues a run that ends with the byte to the next.
     Joint(u8),
@@ -15,36 +16,31 @@ pub enum Layer {
     Tail(u8),
 }
 
-/// Any number of layers over a rule, the lowest first: each stands on what the ones below it make of the rule. A seam is
-/// glued where any layer glues it, so that the pile can be read as one layer.
-#[derive(Drop)]
-pub struct Pile<R> {
-    pub below: R,
-    pub layers: Vec<Layer>,
-}
-
 impl Seam for Layer {
     ghost glues = { glues_of };
 
     fn glued(&self, before: u8, after: u8) -> bool {
         match *self {
-            Layer::Joint(byte) => before == byte,
-            Layer::Tail(byte) => after == byte,
+            Layer::Joint(byte) => Joint(byte).glued(before, after),
+            Layer::Tail(byte) => Tail(byte).glued(before, after),
         }
     }
 }
 
-impl<R> Seam for Pile<R> {
-    ghost glues = { λ s. any_glues s.layers.items };
+/// A seam is glued where any layer glues it, so that a pile can be read as one layer.
+impl Seam for Vec<Layer> {
+    ghost glues = { λ s. any_glues s.items };
 
     fn glued(&self, before: u8, after: u8) -> bool {
-        for layer in self.layers.as_slice() {
-            if layer.glued(before, after) {
-                return true;
-            }
-        }
-        false
+        self.iter().any(|layer| layer.glued(before, after))
     }
+}
+
+/// Any number of layers over a rule, the lowest first: each stands on what the ones below it make of the rule.
+#[derive(Drop)]
+pub struct Pile<R> {
+    pub below: R,
+    pub layers: Vec<Layer>,
 }
 
 impl<R: Rule> Rule for Pile<R> {
@@ -56,11 +52,13 @@ impl<R: Rule> Rule for Pile<R> {
 
     ghost joins = { λ s. pile_joins s.layers.items _ (R.Rule.bounds s.below) _ (R.Rule.joins s.below) };
 
+    #[tactic(auto, using(crate::specs::PileLaws::pile_end))]
     fn end(&self, text: &[u8], place: usize) -> Result<usize, Refusal> {
-        layer_end(&self.below, self, text, place)
+        layer_end(&self.below, &self.layers, text, place)
     }
 
+    #[tactic(auto, using(crate::specs::PileLaws::pile_wall))]
     fn wall(&self, text: &[u8], place: usize) -> Result<bool, Refusal> {
-        layer_wall(&self.below, self, text, place)
+        layer_wall(&self.below, &self.layers, text, place)
     }
 }

@@ -2,3 +2,4 @@ pub mod Lawful
 pub mod Files
 pub mod WallLaws
 pub mod RunLaws
+pub mod RunLists

@@ -21,6 +21,10 @@ cut_file run text = records 0 (cutting run text)
 abbrev pub file_size : (List ℕ → ℕ) → List ℕ → ℕ
 file_size run text = 4 * length (cutting run text)
 
+-- whether a buffer of so many bytes has room for it
+abbrev pub room_for : (List ℕ → ℕ) → List ℕ → ℕ → Result (Unit {0}) Refusal
+room_for run text size = cond (nat_lt size (file_size run text)) (Err (BufferTooShort (file_size run text))) (Ok tt)
+
 -- what writing it answers, into a buffer of so many bytes: how many bytes were written
 abbrev pub written : (List ℕ → ℕ) → List ℕ → ℕ → Result ℕ Refusal
 written run text size =

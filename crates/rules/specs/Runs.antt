@@ -1,5 +1,5 @@
 -- The runs of a cutting, one by one. A cutting is the list of the lengths of its runs, which are numbered from 0.
-use Rattle.std.specs.Prelude.{◌≡◌, ℕ, ◌+◌, ◌-◌, ◌<◌, cond, List, [], ◌∷◌, length, take, drop, nat_le}
+use Rattle.std.specs.Prelude.{◌≡◌, ℕ, ◌+◌, ◌-◌, ◌<◌, cond, List, [], ◌∷◌, ◌++◌, length, take, drop, nat_le, codes, decimal}
 use Rattle.rules.specs.Cutting.{cutting}
 use Rattle.rules.specs.Walls.{total}
 use Rattle.rules.specs.declared.runs.Run.{Run}
@@ -27,6 +27,11 @@ number_over place (k ∷ ks) = cond (nat_le k place) (1 + number_over (place - k
 abbrev pub nth_from : ℕ → List ℕ → ℕ → Run
 nth_from from ks n = record { number = n; start = from + starts_at ks n; end = from + ends_at ks n }
 
+-- the runs of these lengths, numbered on from a number, the first of which starts at a place
+abbrev pub runs_of : ℕ → ℕ → List ℕ → List Run
+runs_of number start [] = []
+runs_of number start (k ∷ ks) = record { number = number; start = start; end = start + k } ∷ runs_of (number + 1) (start + k) ks
+
 -- the run over the byte at a place, in a text cut from `from` on: as many runs are taken as end at or before the place
 abbrev pub over_from : (List ℕ → ℕ) → List ℕ → ℕ → ℕ → Run
 over_from run text from place =
@@ -39,3 +44,10 @@ run_over_byte ks place = nth_from 0 ks (number_over place ks)
 -- where a run starts and ends
 abbrev pub span_of : Run → Span
 span_of r = record { start = r.start; end = r.end }
+
+-- the lines in which a span and a run are printed
+abbrev pub span_line : Span → List ℕ
+span_line s = codes "start " ++ (decimal s.start ++ (codes " end " ++ decimal s.end))
+
+abbrev pub run_line : Run → List ℕ
+run_line r = codes "run " ++ (decimal r.number ++ (codes " " ++ span_line (span_of r)))

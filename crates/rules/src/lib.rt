@@ -2,14 +2,19 @@
 #![tactic(auto)]
 
 mod cut_file;
+mod limits;
 mod lines;
+mod page;
 mod rule;
 pub mod runs;
+mod walk;
 mod walls;
 
 pub use cut_file::write_cut_file;
+pub use limits::{LIMIT, check_length, check_place};
 pub use lines::Line;
-pub use rule::{LIMIT, Rule, is_wall, run_end};
-pub use runs::walk::{walk_past, walk_to};
+pub use page::Page;
+pub use rule::Rule;
 pub use runs::{Run, Span};
+pub use walk::Runs;
 pub use walls::{runs_before, three_parts};

@@ -2,11 +2,12 @@ ghost use Rattle.std.specs.Prelude.{List};
 ghost use Rattle.rules.specs.Lines.{line_run, line_parts};
 ghost use Rattle.rules.specs.LineLaws.{line_bounded, line_joins};
 
-use crate::rule::{LIMIT, Rule};
+use crate::limits::check_place;
+use crate::rule::Rule;
 use refusals::Refusal;
 
 /// The line rule: a run ends after a byte 13, or where the text ends; a wall stands after each byte 13.
-#[derive(Clone, Copy)]
+#[derive(Clone, Copy, PartialEq, Eq, Debug)]
 pub struct Line;
 
 impl Rule for Line {
@@ -19,30 +20,15 @@ impl Rule for Line {
     ghost joins = { λ s. line_joins };
 
     fn end(&self, text: &[u8], place: usize) -> Result<usize, Refusal> {
-        if text.len() > LIMIT {
-            return Err(Refusal::TextTooLong(text.len()));
+        check_place(text, place)?;
+        match text[place..].iter().position(|byte| *byte == b'\r') {
+            Some(before) => Ok(place + before + 1),
+            None => Ok(text.len()),
         }
-        if place >= text.len() {
-            return Err(Refusal::PlaceOutside(place));
-        }
-        for i in place..text.len() {
-            if text[i] == b'\r' {
-                return Ok(i + 1);
-            }
-        }
-        Ok(text.len())
     }
 
     fn wall(&self, text: &[u8], place: usize) -> Result<bool, Refusal> {
-        if text.len() > LIMIT {
-            return Err(Refusal::TextTooLong(text.len()));
-        }
-        if place >= text.len() {
-            return Err(Refusal::PlaceOutside(place));
-        }
-        if place == 0 {
-            return Ok(true);
-        }
-        Ok(text[place - 1] == b'\r')
+        check_place(text, place)?;
+        Ok(place == 0 || text[place - 1] == b'\r')
     }
 }

@@ -1,9 +1,9 @@
-ghost use Rattle.std.specs.Prelude.{◌≡◌, true, ◌&&◌, List, length, take, Ok, nat_le};
+ghost use Rattle.std.specs.Prelude.{◌≡◌, true, ◌&&◌, length, take, Ok, nat_le};
 ghost use Rattle.rules.specs.Cutting.{cutting};
 ghost use Rattle.rules.specs.Answers.{wall_at};
 ghost use Rattle.rules.specs.Walls.{starts_below, Uncrossed, InThree, at_wall, about_places};
 
-use crate::cut_file::count_runs;
+use crate::page::Page;
 use crate::rule::Rule;
 use refusals::Refusal;
 
@@ -17,7 +17,11 @@ pub fn runs_before<R: Rule>(rule: &R, text: &[u8], place: usize) -> Result<Optio
     if !rule.wall(text, place)? {
         return Ok(None);
     }
-    Ok(Some(count_runs(rule, &text[..place])))
+    let before = Page {
+        rule,
+        text: &text[..place],
+    };
+    Ok(Some(before.count_runs()))
 }
 
 /// Whether two places are walls, the first at or before the second. The three parts of the text that they bound are then

@@ -1,6 +1,5 @@
 -- The runs of two cuttings that are the same outside a window, one by one.
 use Rattle.std.proofs.Common.{◌≡◌, ℕ, zero, suc, ◌+◌, ◌-◌, ◌<◌, ◌≤◌, List, [], ◌∷◌, ◌++◌, length, take, drop, sym, refl, ap, ◌∙◌, subst, ⊎_elim, arith, length-append}
-use lib.Seq.{take-append-add}
 use Rattle.std.proofs.lemmas.List.{take_at, take-append-le, length-take-le}
 use Rattle.std.proofs.lemmas.Int.{ints}
 use Rattle.std.proofs.lemmas.Bool.{cases_lt}
@@ -8,7 +7,8 @@ use Rattle.rules.specs.Cutting.{cutting, Bounded}
 use Rattle.rules.specs.Walls.{total}
 use Rattle.rules.specs.Runs.{RunAt}
 use Rattle.rules.specs.Cuts.{shorter, cutting_some, cutting_none}
-use Rattle.rules.proofs.WallLaws.{total_append, Parted, parted_cutting, total_cutting}
+use Rattle.rules.proofs.WallLaws.{Parted, parted_cutting, total_cutting}
+use Rattle.rules.proofs.RunLaws.{starts_past}
 use Rattle.windows.specs.Windows.{gained, SameOutside}
 
 -- ---- lists of lengths
@@ -21,10 +21,6 @@ rising_more k ks h r zero zero l e = absurd (omega arith)
 rising_more k ks h r zero (suc n) l e = omega arith
 rising_more k ks h r (suc m) zero l e = absurd (omega arith)
 rising_more k ks h r (suc m) (suc n) l e = omega (arith, r m n (omega arith) (omega arith))
-
--- where the runs past a front start
-total_past : (js ks : List ℕ) (n : ℕ) → total (take (length js + n) (js ++ ks)) ≡ total js + total (take n ks)
-total_past js ks n = ap total (take-append-add js ks n) ∙ total_append js (take n ks)
 
 module _ (old new : List ℕ) (rising : Rising old) (n start end : ℕ) (at : RunAt old n start end) where
   -- a run that ends in a common front is a run of both
@@ -58,8 +54,8 @@ module _ (old new : List ℕ) (rising : Rising old) (n start end : ℕ) (at : Ru
       (λ (ge : length ms ≤ n). ge)
       (cases_lt n (length ms)) in
       let same : (k : ℕ) → total (take (length ms + k) old) ≡ total (take (length ns + k) new) =
-      λ k. ap (λ l. total (take (length ms + k) l)) o ∙ total_past ms rest k ∙ ap (λ j. j + total (take k rest)) t
-      ∙ sym (ap (λ l. total (take (length ns + k) l)) e ∙ total_past ns rest k) in
+      λ k. ap (λ l. total (take (length ms + k) l)) o ∙ starts_past ms rest k ∙ ap (λ j. j + total (take k rest)) t
+      ∙ sym (ap (λ l. total (take (length ns + k) l)) e ∙ starts_past ns rest k) in
       let from : n ≡ length ms + (n - length ms) = omega arith in
       let to : n + 1 ≡ length ms + (n - length ms + 1) = omega arith in
       let next : length ns + (n - length ms + 1) ≡ length ns + (n - length ms) + 1 = omega arith in (

@@ -1,8 +1,13 @@
 -- What a change of one byte upsets. The text before is xs, the text after is ys, of the same length.
-use Rattle.std.specs.Prelude.{◌≡◌, ℕ, zero, suc, ◌+◌, ◌-◌, ◌<◌, ◌≤◌, Bool, true, false, cond, ◌&&◌, List, length, ℤ, pos, ◌+ℤ◌, ◌-ℤ◌}
+use Rattle.std.specs.Prelude.{◌≡◌, ℕ, zero, suc, ◌+◌, ◌-◌, ◌<◌, ◌≤◌, Bool, true, false, cond, ◌&&◌, List, length, slice_set, ℤ, pos, ◌+ℤ◌, ◌-ℤ◌}
 use Rattle.rules.specs.Cutting.{cutting}
 use Rattle.rules.specs.Answers.{wall_at}
 use Rattle.rules.specs.Runs.{RunAt}
+use Rattle.windows.specs.declared.edit.Edit.{Edit}
+
+-- a text with an edit made
+abbrev pub edited : Edit → List ℕ → List ℕ
+edited edit text = slice_set text edit.place edit.byte
 
 -- how many runs a text has
 abbrev pub runs : (List ℕ → ℕ) → List ℕ → ℕ

@@ -2,11 +2,13 @@
 #![tactic(auto)]
 
 mod counts;
+mod edit;
 mod trial;
 mod walls;
 mod window;
 
 pub use counts::runs_between;
+pub use edit::Edit;
 pub use trial::Trial;
 pub use walls::wall_not_above;
-pub use window::{Window, window_of};
+pub use window::Window;

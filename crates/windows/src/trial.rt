@@ -1,4 +1,7 @@
 ghost use Rattle.std.specs.Prelude.{◌≡◌, ◌<◌, length, slice_index, slice_set};
+ghost use Rattle.windows.specs.Windows.{edited};
+
+use crate::edit::Edit;
 
 /// A byte of a text changed for a time: letting go of it puts the old byte back.
 pub struct Trial<'a> {
@@ -18,16 +21,17 @@ impl Drop for Trial<'_> {
 }
 
 impl<'a> Trial<'a> {
-    /// Writes the byte at a place of the text.
-    pub fn begin(text: &'a mut [u8], place: usize, byte: u8) -> Trial<'a>
-        requires { place < length text.old }
+    /// Makes the edit in the text.
+    pub fn begin(text: &'a mut [u8], edit: Edit) -> Trial<'a>
+        requires { edit.place < length text.old }
         ensures named { result.text.ghost_name ≡ text.entry.ghost_name }
-        ensures changed { result.text.now ≡ slice_set text.old place byte }
-        ensures place { result.place ≡ place }
-        ensures old { result.old ≡ slice_index text.old place }
+        ensures changed { result.text.now ≡ edited edit text.old }
+        ensures place { result.place ≡ edit.place }
+        ensures old { result.old ≡ slice_index text.old edit.place }
     {
+        let place = edit.place;
         let old = text[place];
-        text[place] = byte;
+        text[place] = edit.byte;
         Trial { text, place, old }
     }
 

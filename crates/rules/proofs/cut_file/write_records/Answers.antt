@@ -1,62 +1,73 @@
-use Rattle.std.proofs.Common.{◌≡◌, ℕ, ◌+◌, ◌<◌, ◌≤◌, List, ◌++◌, length, take, drop, sym, ap, ◌∙◌, append-nil, arith, rules}
-use Rattle.std.proofs.lemmas.List.{drop_all, drop-drop}
-use Rattle.rules.specs.Cutting.{cutting, Bounded}
-use Rattle.rules.specs.CutFiles.{record_of, records, cut_file, file_size}
-use Rattle.rules.specs.Cuts.{cutting_from, cutting_none}
+use Rattle.std.proofs.Common.{◌≡◌, ℕ, ◌+◌, ◌≤◌, List, ◌++◌, length, take, drop, sym, refl, ap, subst, ◌∙◌, append-nil, arith}
+use Rattle.std.proofs.lemmas.List.{drop-drop}
+use Rattle.rules.specs.Cutting.{cutting}
+use Rattle.rules.specs.CutFiles.{cut_file, file_size}
+use Rattle.rules.specs.Runs.{runs_of}
+use Rattle.rules.specs.declared.runs.Run.{Run}
 use Rattle.rules.proofs.Files.{records_size, filled_more, past_more, filled_all}
+use Rattle.rules.proofs.RunLists.{runs_size, all_records, records_of_runs, Within, within_text}
 use Rattle.rules.proofs.cut_file.write_records.Goals as goal
 
--- one turn: what is left begins with the record of the run from `at` to `end`
-module _ (run : List ℕ → ℕ) (b : Bounded run) (text : List ℕ) (at end : ℕ) (h : at < length text) (e : end ≡ at + run (drop at text)) where
-  fewer : length (cutting run (drop at text)) ≡ 1 + length (cutting run (drop end text))
-  fewer = ap (λ (l : List ℕ). length l) (cutting_from run b text at end h e) ∙ omega arith
+pub loop-run-init : goal.loop-run-init
+loop-run-init g c =
+    let page = c.args.page.now in
+    let run = g.R.Rule.run page.rule.now in
+    let runs : c.into_iter-run-iterator.result ≡ runs_of 0 0 (cutting run page.text.now) = c.into_iter-run-iterator.ensures.into_iter_gives ∙ c.runs-run-items.ensures in
+    let size = ap (λ (rs : List Run). length rs) runs ∙ runs_size 0 0 (cutting run page.text.now) in
+    record {
+      size = omega arith;
+      front = ap all_records runs ∙ records_of_runs 0 0 (cutting run page.text.now);
+      rest = refl;
+      within = subst (Within (length page.text.now)) (sym runs) (within_text run (g.met.R.Rule.bounds page.rule.now) page.text.now 0 0 (omega arith));
+    }
 
-  next-record : records at (cutting run (drop at text)) ≡ record_of at end ++ records end (cutting run (drop end text))
-  next-record =
-      ap (records at) (cutting_from run b text at end h e)
-      ∙ ap (λ (n : ℕ). record_of at n ++ records n (cutting run (drop end text))) (sym e)
+pub overflow_cast-run : goal.overflow_cast-run
+overflow_cast-run g c =
+    let here = subst (Within (length c.args.page.now.text.now)) c.in-Some.ensures.steps c.loop-run.invariant.within in
+    omega (arith, c.args.page.now.short)
+
+pub overflow_cast-run-in-loop-run : goal.overflow_cast-run-in-loop-run
+overflow_cast-run-in-loop-run g c =
+    let here = subst (Within (length c.args.page.now.text.now)) c.in-Some.ensures.steps c.loop-run.invariant.within in
+    omega (arith, c.args.page.now.short)
 
 pub write_record-requires : goal.write_record-requires
 write_record-requires g c =
-    let text = c.args.text.now in
-    let f = fewer (g.R.Rule.run c.args.rule.now) (g.met.R.Rule.bounds c.args.rule.now) text c.loop-at.at c.run_end-end.result (omega arith) c.run_end-end.ensures.value in
-    let r = c.requires.room in
-    let short = c.requires.short in
-    (omega arith, (omega arith, omega arith))
+    let size = ap (λ (rs : List Run). length rs) c.in-Some.ensures.steps in
+    omega (arith, c.loop-run.invariant.size)
 
-pub loop-at-preserved : goal.loop-at-preserved
-loop-at-preserved g c =
-    let text = c.args.text.now in
-    let run = g.R.Rule.run c.args.rule.now in
-    let b = g.met.R.Rule.bounds c.args.rule.now in
-    let at = c.loop-at.at in
-    let end = c.run_end-end.result in
-    let n = c.loop-at.filled in
-    let buffer = c.loop-at.buffer in
-    let f = fewer run b text at end (omega arith) c.run_end-end.ensures.value in
-    let r = c.requires.room in
-    let room : n + 4 ≤ length buffer = omega arith in
-    let was : c.write_record.new.buffer ≡ take n buffer ++ (record_of at end ++ drop (n + 4) buffer) = search rules in (
-      c.run_end-end.ensures.within,
-      omega arith,
-      ap (λ (l : List ℕ). take (n + 4) l ++ records end (cutting run (drop end text))) was
-          ∙ filled_more buffer n at end (records end (cutting run (drop end text))) (cut_file run text) room
-          (ap (λ (l : List ℕ). take n buffer ++ l) (sym (next-record run b text at end (omega arith) c.run_end-end.ensures.value)) ∙ c.loop-at.invariant.2),
-      ap (drop (n + 4)) was ∙ past_more buffer n at end room
-          ∙ sym (drop-drop 4 n buffer) ∙ ap (drop 4) c.loop-at.invariant.3 ∙ drop-drop 4 n c.args.buffer.now,
-    )
+pub loop-run-preserved : goal.loop-run-preserved
+loop-run-preserved g c =
+    let here = c.loop-run.invariant in
+    let next = c.in-Some.ensures.steps in
+    let run = c.in-Some.run' in
+    let left = all_records c.next.new.self in
+    let n = c.loop-run.filled in
+    let buffer = c.loop-run.buffer in
+    let size = ap (λ (rs : List Run). length rs) next in
+    let room : n + 4 ≤ length buffer = omega (arith, here.size) in
+    record {
+      size = omega (arith, here.size);
+      front =
+          ap (λ (l : List ℕ). take (n + 4) l ++ left) c.write_record.ensures
+          ∙ filled_more buffer n run.start run.end left _ room (ap (λ (rs : List Run). take n buffer ++ all_records rs) (sym next) ∙ here.front);
+      rest =
+          ap (drop (n + 4)) c.write_record.ensures ∙ past_more buffer n run.start run.end room
+          ∙ sym (drop-drop 4 n buffer) ∙ ap (drop 4) here.rest ∙ drop-drop 4 n c.args.buffer.now;
+      within = (subst (Within (length c.args.page.now.text.now)) next here.within).2;
+    }
 
 pub returns : goal.returns
 returns g c =
-    let text = c.args.text.now in
-    let run = g.R.Rule.run c.args.rule.now in
-    let b = g.met.R.Rule.bounds c.args.rule.now in
-    let none : cutting run (drop c.loop-at.at text) ≡ _ = ap (cutting run) (drop_all c.loop-at.at text c.loop-at-test.false) ∙ cutting_none run b in
-    let few = ap (λ (l : List ℕ). length l) none in
-    let size : c.loop-at.filled ≡ file_size run text = omega arith in
-    let whole : take c.loop-at.filled c.loop-at.buffer ≡ cut_file run text =
-    sym (append-nil _) ∙ ap (λ (l : List ℕ). take c.loop-at.filled c.loop-at.buffer ++ records c.loop-at.at l) (sym none) ∙ c.loop-at.invariant.2 in
+    let page = c.args.page.now in
+    let run = g.R.Rule.run page.rule.now in
+    let here = c.loop-run.invariant in
+    let none = c.in-None.ensures.steps.0 in
+    let few = ap (λ (rs : List Run). length rs) none in
+    let size : c.loop-run.filled ≡ file_size run page.text.now = omega (arith, here.size) in
+    let whole : take c.loop-run.filled c.loop-run.buffer ≡ cut_file run page.text.now =
+    sym (append-nil _) ∙ ap (λ (rs : List Run). take c.loop-run.filled c.loop-run.buffer ++ all_records rs) (sym none) ∙ here.front in
     record {
       size = size;
-      bytes = filled_all c.loop-at.buffer c.args.buffer.now (cut_file run text) c.loop-at.filled whole (records_size 0 (cutting run text) ∙ sym size) c.loop-at.invariant.3;
+      bytes = filled_all c.loop-run.buffer c.args.buffer.now _ c.loop-run.filled whole (records_size 0 (cutting run page.text.now) ∙ sym size) here.rest;
     }

@@ -1,30 +1,18 @@
-use Rattle.std.proofs.Common.{◌≡◌, ◌+◌, drop, arith, rules}
-use Rattle.windows.proofs.Tallies.{counted_none, counted_more, counted_all}
+use Rattle.std.proofs.Common.{◌-◌, take, drop, arith, length-drop}
+use Rattle.std.proofs.lemmas.List.{length-take-le}
+use Rattle.rules.specs.Cuts.{runs_few}
 use Rattle.windows.proofs.counts.runs_between.Goals as goal
 
-pub loop-start-init : goal.loop-start-init
-loop-start-init g c =
-    let rule = c.args.rule.now in
-    (omega arith, omega arith, counted_none (g.R.Rule.run rule) (g.met.R.Rule.bounds rule) c.args.text.now c.args.to c.args.from (omega arith))
+pub returns-clause-few : goal.returns-clause-few
+returns-clause-few g c =
+    let page = c.args.page.now in
+    let few = runs_few (g.R.Rule.run page.rule.now) (g.met.R.Rule.bounds page.rule.now) (take (c.args.to - c.args.from) (drop c.args.from page.text.now)) in
+    let size = length-take-le (c.args.to - c.args.from) (drop c.args.from page.text.now) (simp length-drop (omega arith)) in
+    omega (arith, c.count_runs.ensures)
 
-pub loop-start-preserved : goal.loop-start-preserved
-loop-start-preserved g c =
-    let rule = c.args.rule.now in
-    let run = g.R.Rule.run rule in
-    let text = c.args.text.now in
-    let start = c.loop-start.start in
-    let end = c.run_end-start.result in
-    let is : end ≡ start + run (drop start text) = search rules in (
-      omega arith,
-      omega arith,
-      λ j. counted_more run (g.met.R.Rule.bounds rule) text c.args.to c.args.from start end c.loop-start.count (omega arith) (omega arith) is (c.loop-start.invariant.2 j),
-    )
-
-pub returns : goal.returns
-returns g c =
-    let rule = c.args.rule.now in
-    record {
-      value = λ j. counted_all (g.R.Rule.run rule) (g.met.R.Rule.bounds rule) c.args.text.now c.args.to c.args.from c.loop-start.start c.loop-start.count (omega arith) (c.loop-start.invariant.2 j);
-      few = omega arith;
-      small = omega arith;
-    }
+pub returns-clause-small : goal.returns-clause-small
+returns-clause-small g c =
+    let page = c.args.page.now in
+    let few = runs_few (g.R.Rule.run page.rule.now) (g.met.R.Rule.bounds page.rule.now) (take (c.args.to - c.args.from) (drop c.args.from page.text.now)) in
+    let size = length-take-le (c.args.to - c.args.from) (drop c.args.from page.text.now) (simp length-drop (omega arith)) in
+    omega (arith, c.count_runs.ensures, page.short)

@@ -1,0 +1,52 @@
+ghost use Rattle.std.specs.Prelude.{◌≡◌, ℕ, ◌+◌, ◌<◌, ◌≤◌, true, length, take, drop, ⊤};
+ghost use Rattle.rules.specs.Cutting.{Joined};
+ghost use Rattle.rules.specs.Answers.{wall_at};
+
+use crate::rule::Rule;
+use std::alloc::AllocError;
+
+/// A text that no rule refuses for its length, read by a rule.
+pub struct Page<'a, R> {
+    pub rule: &'a R,
+    pub text: &'a [u8],
+    ghost short: { length text.now ≤ 16383 },
+}
+
+impl<'a, R> Clone for Page<'a, R> {
+    ghost is_clone = { λ page copy. copy ≡ page };
+
+    ghost is_infallible = { λ _. ⊤ };
+
+    fn clone(&self) -> Result<Self, AllocError> {
+        Ok(*self)
+    }
+}
+
+impl<'a, R> Copy for Page<'a, R> {}
+
+impl<'a, R: Rule> Page<'a, R> {
+    /// Where the run from a place ends.
+    pub fn run_end(&self, place: usize) -> usize
+        requires { place < length self.now.text.now }
+        ensures value { result ≡ place + R.run self.now.rule.now (drop place self.now.text.now) }
+        ensures some { place < result }
+        ensures within { result ≤ length self.now.text.now }
+    {
+        let Ok(end) = self.rule.end(self.text, place) else {
+            return unreachable();
+        };
+        end
+    }
+
+    /// Whether a wall stands at a place.
+    pub fn is_wall(&self, place: usize) -> bool
+        requires { place < length self.now.text.now }
+        ensures value { result ≡ wall_at (R.parts self.now.rule.now) self.now.text.now place }
+        ensures joined { result ≡ true → Joined (R.run self.now.rule.now) (take place self.now.text.now) (drop place self.now.text.now) }
+    {
+        let Ok(wall) = self.rule.wall(self.text, place) else {
+            return unreachable();
+        };
+        wall
+    }
+}

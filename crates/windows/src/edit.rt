@@ -1,0 +1,44 @@
+ghost use Rattle.std.specs.Prelude.{◌≡◌, ◌<◌, ◌≤◌, length};
+ghost use Rattle.rules.specs.Answers.{wall_of};
+ghost use Rattle.windows.specs.Windows.{both_walls, edited};
+
+use crate::trial::Trial;
+use refusals::Refusal;
+use rules::{Page, Rule};
+
+/// A change of one byte of a text: the byte that is written, and the place where.
+#[derive(Clone, Copy, PartialEq, Eq, Debug)]
+pub struct Edit {
+    pub place: usize,
+    pub byte: u8,
+}
+
+impl Edit {
+    // What the rule answers about a wall in the text as the edit would leave it. The text is given back as it was, on a
+    // refusal too.
+    fn wall_after<R: Rule>(self, rule: &R, text: &mut [u8], at: usize) -> Result<bool, Refusal>
+        requires { self.place < length text.old }
+        ensures restored { text.new ≡ text.old }
+        ensures value { result ≡ wall_of (R.parts rule.now) (edited self text.old) at }
+    {
+        let trial = Trial::begin(text, self);
+        let wall = rule.wall(trial.view(), at)?;
+        Ok(wall)
+    }
+
+    /// Whether a wall of both texts, with the old byte and with the new one, stands at a place.
+    pub fn is_wall_of_both<R: Rule>(self, rule: &R, text: &mut [u8], at: usize) -> bool
+        requires { (length text.old ≤ 16383) × ((self.place < length text.old) × (at < length text.old)) }
+        ensures restored { text.new ≡ text.old }
+        ensures value { result ≡ both_walls (R.parts rule.now) text.old (edited self text.old) at }
+    {
+        let before = Page { rule, text };
+        if !before.is_wall(at) {
+            return false;
+        }
+        let Ok(wall) = self.wall_after(rule, text, at) else {
+            return unreachable();
+        };
+        wall
+    }
+}
