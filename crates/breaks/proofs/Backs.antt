@@ -1,6 +1,9 @@
 -- Character places found from behind: after a byte that is no first byte a character ends, and through a stretch of first
 -- bytes the places alternate.
-use Rattle.std.proofs.Common.{◌≡◌, ℕ, zero, suc, ◌+◌, ◌-◌, ◌%◌, ◌<◌, ◌≤◌, Bool, true, false, List, [], ◌∷◌, ◌++◌, length, get_or, drop, sym, refl, ap, ◌∙◌, inl, inr, append_assoc, arith}
+use Rattle.std.proofs.Common.{◌≡◌, ℕ, zero, suc, ◌+◌, ◌-◌, ◌%◌, ◌<◌, ◌≤◌, Bool, true, false, List, [], ◌∷◌, ◌++◌, length, get_or, take, drop, cond, sym, refl, ap, ◌∙◌, inl, inr, append_assoc, arith}
+use Rattle.std.specs.List.{prefix_len, suffix_len}
+use Rattle.std.proofs.Math.Seq.{take-suc}
+use Rattle.std.proofs.lemmas.List.{reverse-append}
 use Rattle.std.proofs.lemmas.Bool.{cond-true, cond-false, cases_Bool, cases_eq}
 use Rattle.breaks.specs.Chars.{Char, char, chars, span}
 use Rattle.breaks.specs.Tables.{parted}
@@ -122,16 +125,23 @@ module _ (sure : ℕ → ℕ → Bool) where
 
 -- one byte more, read from behind
 module _ (lead : ℕ → Bool) (text : List ℕ) where
-  pub leads_more : (p : ℕ) → 0 < p → lead (get_or text (p - 1) 0) ≡ true → leads_before lead text p ≡ 1 + leads_before lead text (p - 1)
-  leads_more zero h l = absurd (omega arith)
-  leads_more (suc p) h l =
-      let e : suc p - 1 ≡ p = omega arith in
-      cond-true _ _ _ (ap (λ (n : ℕ). lead (get_or text n 0)) (sym e) ∙ l)
-      ∙ (let n = ap (leads_before lead text) e in omega arith)
+  -- counted from the end of what stands before the place
+  pub leads_counted : (p : ℕ) → p ≤ length text → suffix_len lead (take p text) ≡ leads_before lead text p
+  leads_counted zero h = refl
+  leads_counted (suc p) h =
+      let before = leads_counted p (omega arith) in
+      let more : 1 + suffix_len lead (take p text) ≡ suc (leads_before lead text p) = omega arith in
+      ap (suffix_len lead) (take-suc text p 0 h) ∙ ap (prefix_len lead) (reverse-append (take p text) (get_or text p 0 ∷ []))
+      ∙ ap (λ (n : ℕ). cond (lead (get_or text p 0)) n 0) more
 
-  pub leads_none : (p : ℕ) → 0 < p → lead (get_or text (p - 1) 0) ≡ false → leads_before lead text p ≡ 0
-  leads_none zero h l = absurd (omega arith)
-  leads_none (suc p) h l = let e : suc p - 1 ≡ p = omega arith in cond-false _ _ _ (ap (λ (n : ℕ). lead (get_or text n 0)) (sym e) ∙ l)
+  pub leads_few : (p : ℕ) → leads_before lead text p ≤ p
+  leads_few zero = omega arith
+  leads_few (suc p) =
+      let few = leads_few p in
+      elim (cases_Bool (lead (get_or text p 0))) [
+        | inl t ↦ let is : leads_before lead text (suc p) ≡ suc (leads_before lead text p) = cond-true _ _ _ t in omega arith
+        | inr f ↦ let is : leads_before lead text (suc p) ≡ 0 = cond-false _ _ _ f in omega arith
+      ]
 
   -- inside a stretch of first bytes that begins at `low`
   pub leads_inside : (low p q : ℕ) → low ≤ q → q ≤ p → leads_before lead text p ≡ p - low → leads_before lead text q ≡ q - low

@@ -11,9 +11,9 @@ ghost use Rattle.breaks.specs.TableLaws.{table_bounded, table_joins};
 ghost use Rattle.automata.specs.Sure.{holds};
 
 use super::TableRule;
-use crate::characters::read::{character_at, character_start};
+use crate::characters::Characters;
 use refusals::Refusal;
-use rules::{LIMIT, Rule};
+use rules::{Rule, check_place};
 
 impl Rule for TableRule {
     ghost run = { run_of };
@@ -34,46 +34,45 @@ impl Rule for TableRule {
         (holds t.sure.rows) (λ x y l m h r d. t.sound x y r (l, m, h, d)) before after p };
 
     fn end(&self, text: &[u8], place: usize) -> Result<usize, Refusal> {
-        if text.len() > LIMIT {
-            return Err(Refusal::TextTooLong(text.len()));
-        }
-        if place >= text.len() {
-            return Err(Refusal::PlaceOutside(place));
-        }
+        check_place(text, place)?;
+        let characters = Characters {
+            table: &self.table,
+            text,
+        };
         let mut at = place;
         let mut mark = place;
         let mut state = 1;
+        // each step is as long as the character read: an iterator for this loop alone would keep the same place
         while at < text.len() {
-            let here = character_at(&self.table, text, at);
+            let here = characters.at(at);
             let code = self.table.code(state, here.class);
-            if code >= 128 {
+            if code.marks() {
                 mark = at;
             }
-            state = (code % 128) as usize / 2;
-            if state == 0 {
+            if code.exits() {
                 return Ok(mark);
             }
+            state = code.next();
             at += here.size;
         }
         Ok(at)
     }
 
     fn wall(&self, text: &[u8], place: usize) -> Result<bool, Refusal> {
-        if text.len() > LIMIT {
-            return Err(Refusal::TextTooLong(text.len()));
-        }
-        if place >= text.len() {
-            return Err(Refusal::PlaceOutside(place));
-        }
+        check_place(text, place)?;
         if place == 0 {
             return Ok(true);
         }
-        let start = character_start(&self.table, text, place - 1);
-        let before = character_at(&self.table, text, start);
+        let characters = Characters {
+            table: &self.table,
+            text,
+        };
+        let start = characters.start(place - 1);
+        let before = characters.at(start);
         if start + before.size != place {
             return Ok(false);
         }
-        let after = character_at(&self.table, text, place);
+        let after = characters.at(place);
         Ok(self.table.is_sure(before.class, after.class))
     }
 }

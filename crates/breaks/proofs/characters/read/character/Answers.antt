@@ -1,4 +1,4 @@
-use Rattle.std.proofs.Common.{◌≡◌, drop, ap, arith}
+use Rattle.std.proofs.Common.{◌≡◌, drop, ap}
 use Rattle.tables.specs.Meaning.{bytes_of}
 use Rattle.rules.proofs.Lawful.{answers}
 use Rattle.breaks.specs.Meaning.{characters, first_of}
@@ -9,6 +9,7 @@ returns c =
     let b = bytes_of c.args.table.now in
     let text = c.args.text.now in
     let place = c.args.place in
-    let is = ap first_of c.character_at.ensures.reads in
-    let same : c.character_at.result ≡ first_of (characters b (drop place text)) = cc in
-    answers text place (first_of (characters b (drop place text))) (omega arith) (omega arith) c.character_at.result same
+    let inside = c.in_ok-check_place.ensures.inside in
+    let is = ap first_of c.at.ensures.reads in
+    let same : c.at.result ≡ first_of (characters b (drop place text)) = cc in
+    answers text place (first_of (characters b (drop place text))) inside.0 inside.1 c.at.result same

@@ -24,29 +24,31 @@ returns-then-start-before c =
     let r = c.args.self.now in
     let b = bytes_of r.table in
     let text = c.args.text.now in
+    let inside = c.in_ok-check_place.ensures.inside in
     let place = c.args.place in
-    let e = c.character_at-before.ensures in
-    let u = c.character_at-before.result in
+    let e = c.at-before.ensures in
+    let u = c.at-before.result in
     let first : 1 ≤ place = let ne = c.if-place-eq0.false in omega arith in
-    answers text place (wall_at (parts_of r) text place) c.if-text-gt-LIMIT.false c.if-place-text.false false
-    (sym (walled r text place first c.if-place-text.false
-    ∙ parted_amid (leads b) (one_class b) (two_class b) (holds r.table.sure.rows) text place (omega arith) c.if-place-text.false c.character_start-start.result c.character_start-start.ensures.value (char u.size u.class) e.some e.reads c.if-start-before.true))
+    answers text place (wall_at (parts_of r) text place) inside.0 inside.1 false
+    (sym (walled r text place first inside.1
+    ∙ parted_amid (leads b) (one_class b) (two_class b) (holds r.table.sure.rows) text place (omega arith) inside.1 c.start-start.result c.start-start.ensures.value (char u.size u.class) e.some e.reads c.if-start-before.true))
 
 pub returns : goal.returns
 returns c =
     let r = c.args.self.now in
     let b = bytes_of r.table in
     let text = c.args.text.now in
+    let inside = c.in_ok-check_place.ensures.inside in
     let place = c.args.place in
-    let e = c.character_at-before.ensures in
-    let u = c.character_at-before.result in
-    let f = c.character_at-after.ensures in
-    let v = c.character_at-after.result in
+    let e = c.at-before.ensures in
+    let u = c.at-before.result in
+    let f = c.at-after.ensures in
+    let v = c.at-after.result in
     let first : 1 ≤ place = let ne = c.if-place-eq0.false in omega arith in
     let is =
-    walled r text place first c.if-place-text.false
-    ∙ parted_between (leads b) (one_class b) (two_class b) (holds r.table.sure.rows) text place (omega arith) c.if-place-text.false c.character_start-start.result c.character_start-start.ensures.value (char u.size u.class) e.some e.reads c.if-start-before.false
+    walled r text place first inside.1
+    ∙ parted_between (leads b) (one_class b) (two_class b) (holds r.table.sure.rows) text place (omega arith) inside.1 c.start-start.result c.start-start.ensures.value (char u.size u.class) e.some e.reads c.if-start-before.false
     (char v.size v.class) (characters b (drop (place + v.size) text)) f.reads in
     let told = c.is_sure.ensures in
     let same : ◌≡◌ {A = Bool} c.is_sure.result (wall_at (parts_of r) text place) = cc in
-    answers text place (wall_at (parts_of r) text place) c.if-text-gt-LIMIT.false c.if-place-text.false c.is_sure.result same
+    answers text place (wall_at (parts_of r) text place) inside.0 inside.1 c.is_sure.result same

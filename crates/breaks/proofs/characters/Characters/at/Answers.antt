@@ -8,13 +8,13 @@ use Rattle.tables.proofs.Tabled.{classes_low, list_passes}
 use Rattle.tables.proofs.Classed.{one_low, two_low}
 use Rattle.breaks.specs.Chars.{char, chars}
 use Rattle.breaks.specs.CharLaws.{read_one, read_two, read_short}
-use Rattle.breaks.proofs.characters.read.character_at.Goals as goal
+use Rattle.breaks.proofs.characters.Characters.at.Goals as goal
 
 pub returns-in-Some : goal.returns-in-Some
 returns-in-Some c =
-    let t = c.args.table.now in
+    let t = c.args.self.now.table.now in
     let b = bytes_of t in
-    let text = c.args.text.now in
+    let text = c.args.self.now.text.now in
     let p = c.args.place in
     let e = c.in-Some.ensures in
     let inside = c.requires in
@@ -27,28 +27,28 @@ returns-in-Some c =
           ∙ ap (λ (n : ℕ). char 1 n ∷ chars (leads b) (one_class b) (two_class b) (drop (p + 1) text)) (sym e.1);
     }
 
-pub returns-then-place-text : goal.returns-then-place-text
-returns-then-place-text c =
-    let t = c.args.table.now in
+pub returns-then-place-self : goal.returns-then-place-self
+returns-then-place-self c =
+    let t = c.args.self.now.table.now in
     let b = bytes_of t in
-    let text = c.args.text.now in
+    let text = c.args.self.now.text.now in
     let p = c.args.place in
     let least = classes_low b (list_passes b (table_passes t) Forward) in
     record {
       some = omega arith;
       within = omega arith;
       low = omega arith;
-      reads = read_short (leads b) (one_class b) (two_class b) text p c.if-place-text.true c.in_default.ensures;
+      reads = read_short (leads b) (one_class b) (two_class b) text p c.if-place-self.true c.in_default.ensures;
     }
 
 pub returns : goal.returns
 returns c =
-    let t = c.args.table.now in
+    let t = c.args.self.now.table.now in
     let b = bytes_of t in
-    let text = c.args.text.now in
+    let text = c.args.self.now.text.now in
     let p = c.args.place in
     let inside = c.requires in
-    let more : p + 1 < length text = let ne = c.if-place-text.false in omega arith in
+    let more : p + 1 < length text = let ne = c.if-place-self.false in omega arith in
     let is = c.two_byte_class.ensures in
     record {
       some = omega arith;
