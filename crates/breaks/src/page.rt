@@ -12,8 +12,6 @@ pub fn cut_page(table: Vec<u8>, text: &[u8], buffer: &mut [u8]) -> Result<usize,
     ensures page { PageCut table.items text.now buffer.old result buffer.new }
     ensures within { IfOk result (λ n. n ≤ length buffer.old) }
 {
-    match Table::accept(table) {
-        Ok(table) => write_cut_file(&TableRule { table }, text, buffer),
-        Err(rejected) => Err(rejected.refusal),
-    }
+    let table = Table::accept(table)?;
+    write_cut_file(&TableRule { table }, text, buffer)
 }

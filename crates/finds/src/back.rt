@@ -4,63 +4,63 @@ ghost use Rattle.tables.specs.Meaning.{bytes_of};
 ghost use Rattle.breaks.specs.Places.{leads_before};
 ghost use Rattle.finds.specs.Finds.{backward_from, scan_leads, begin};
 
-use breaks::characters::read::{character_at, stretch_start};
-use tables::Table;
+use breaks::characters::Characters;
 
 // Where the first bytes begin that stand in a row straight before the byte at `at - 1`. The start of the stretch read last
 // is still theirs where it lies below `at`, so that the characters of a stretch read it once.
-fn stretch_before(table: &Table, text: &[u8], at: usize, last: usize) -> usize
+fn stretch_before(characters: &Characters, at: usize, last: usize) -> usize
     requires past { 0 < at }
-    requires inside { at ≤ length text.now }
-    requires known { last < at → leads_before (leads (bytes_of table.now)) text.now (at - 1) ≡ at - 1 - last }
-    ensures value { leads_before (leads (bytes_of table.now)) text.now (at - 1) ≡ at - 1 - result }
+    requires inside { at ≤ length characters.now.text.now }
+    requires known { last < at → leads_before (leads (bytes_of characters.now.table.now)) characters.now.text.now (at - 1) ≡ at - 1 - last }
+    ensures value { leads_before (leads (bytes_of characters.now.table.now)) characters.now.text.now (at - 1) ≡ at - 1 - result }
     ensures within { result < at }
 {
     if last < at {
         last
     } else {
-        stretch_start(table, text, at - 1)
+        characters.stretch_start(at - 1)
     }
 }
 
 // Where the backward scan from a place inside the text leads: to the last mark on exit, or to the text's start.
-fn scan_back(table: &Table, text: &[u8], place: usize) -> usize
-    requires { place < length text.now }
-    ensures value { result ≡ scan_leads (bytes_of table.now) (backward_from (bytes_of table.now) text.now place) }
+fn scan_back(characters: &Characters, place: usize) -> usize
+    requires { place < length characters.now.text.now }
+    ensures value { result ≡ scan_leads (bytes_of characters.now.table.now) (backward_from (bytes_of characters.now.table.now) characters.now.text.now place) }
     ensures within { result ≤ place }
 {
-    let backward = table.backward();
+    let backward = characters.table.backward();
     let mut at = place + 1;
     // No stretch is read yet: one that begins at `at` counts as none.
     let mut stretch = at;
     let mut mark = 0;
     let mut state = 1;
+    // each step is as long as the character read: an iterator for this loop alone would keep the same places
     while at > 0 {
-        stretch = stretch_before(table, text, at, stretch);
+        stretch = stretch_before(characters, at, stretch);
         let start = at - 1 - (at - 1 - stretch) % 2;
-        let here = character_at(table, text, start);
+        let here = characters.at(start);
         let code = backward.code(state, here.class);
-        if code >= 128 {
+        if code.marks() {
             mark = start;
         }
-        state = (code % 128) as usize / 2;
-        if state == 0 {
+        if code.exits() {
             return mark;
         }
+        state = code.next();
         at = start;
     }
     0
 }
 
 /// Where to begin, to find the run over a place inside the text.
-pub fn begin(table: &Table, text: &[u8], place: usize) -> usize
-    requires { place < length text.now }
-    ensures value { result ≡ begin (bytes_of table.now) text.now place }
+pub fn begin(characters: &Characters, place: usize) -> usize
+    requires { place < length characters.now.text.now }
+    ensures value { result ≡ begin (bytes_of characters.now.table.now) characters.now.text.now place }
     ensures within { result ≤ place }
 {
-    if place < table.backup() {
+    if place < characters.table.backup() {
         0
     } else {
-        scan_back(table, text, place)
+        scan_back(characters, place)
     }
 }

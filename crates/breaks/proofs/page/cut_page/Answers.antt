@@ -11,12 +11,12 @@ written-within run text n =
     cond_both (ltb 16383 (length text)) _ _ (λ (r : Result ℕ Refusal). IfOk r (λ k. k ≤ n)) (λ _. tt)
     (λ _. cond_both (ltb n (file_size run text)) _ _ (λ (r : Result ℕ Refusal). IfOk r (λ k. k ≤ n)) (λ _. tt) (λ e. ltb-false _ _ e))
 
-pub returns-in-Ok : goal.returns-in-Ok
-returns-in-Ok c =
+pub returns : goal.returns
+returns c =
     let b = vec_items c.args.table in
     let text = c.args.text.now in
     let old = c.args.buffer.now in
-    let e = c.in-Ok.ensures in
+    let e = c.in_ok-table.ensures in
     let w = c.write_cut_file.ensures in
     let r = c.write_cut_file.result in
     let answer : r ≡ written (table_run b) text (length old) = w.answer ∙ ap (λ (l : List ℕ). written (table_run l) text (length old)) e.bytes_is in

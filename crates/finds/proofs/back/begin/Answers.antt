@@ -6,5 +6,5 @@ use Rattle.finds.proofs.back.begin.Goals as goal
 
 pub returns-else-place-backup : goal.returns-else-place-backup
 returns-else-place-backup c =
-    let past : backup (bytes_of c.args.table.now) ≤ c.args.place = let e = c.backup.ensures in omega arith in
-    record { value = c.scan_back.ensures.value ∙ sym (cond-false _ _ _ (le-ltb c.args.place (backup (bytes_of c.args.table.now)) past)); within = c.scan_back.ensures.within }
+    let past : backup (bytes_of c.args.characters.now.table.now) ≤ c.args.place = let e = c.backup.ensures in omega arith in
+    record { value = c.scan_back.ensures.value ∙ sym (cond-false _ _ _ (le-ltb c.args.place (backup (bytes_of c.args.characters.now.table.now)) past)); within = c.scan_back.ensures.within }

@@ -13,9 +13,9 @@ use Rattle.finds.proofs.back.scan_back.Given as goal
 -- at `at - 1`
 abbrev pub invariant-loop-at : goal.invariant-loop-at
 invariant-loop-at l =
-    (l.at ≤ l.place + 1) × (l.mark ≤ l.place) × (1 ≤ l.state) × (l.state < states (bytes_of l.table) Backward)
-    × (go_back (machine (bytes_of l.table) Backward) l.state l.mark (reverse (starting_below l.at (characters (bytes_of l.table) l.text))) ≡ scan_leads (bytes_of l.table) (backward_from (bytes_of l.table) l.text l.place))
-    × (l.stretch < l.at → leads_before (leads (bytes_of l.table)) l.text (l.at - 1) ≡ l.at - 1 - l.stretch)
+    (l.at ≤ l.place + 1) × (l.mark ≤ l.place) × (1 ≤ l.state) × (l.state < states (bytes_of l.characters.table.now) Backward)
+    × (go_back (machine (bytes_of l.characters.table.now) Backward) l.state l.mark (reverse (starting_below l.at (characters (bytes_of l.characters.table.now) l.characters.text.now))) ≡ scan_leads (bytes_of l.characters.table.now) (backward_from (bytes_of l.characters.table.now) l.characters.text.now l.place))
+    × (l.stretch < l.at → leads_before (leads (bytes_of l.characters.table.now)) l.characters.text.now (l.at - 1) ≡ l.at - 1 - l.stretch)
 
 abbrev pub decreases-loop-at : goal.decreases-loop-at
 decreases-loop-at l = l.at

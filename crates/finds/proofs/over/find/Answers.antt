@@ -14,15 +14,17 @@ returns c =
     let b = bytes_of t in
     let text = c.args.text.now in
     let place = c.args.place in
-    let run = c.walk_to-run.result in
-    let from = c.begin-from.result in
+    let inside = c.in_ok-check_place.ensures.inside in
+    let run = c.walk_to.result in
+    let from = c.begin.result in
     let from_is : from ≡ begin b text place = search rules in
     let run_is : run ≡ over_from (table_run b) text from place = search rules in
-    let low : begin b text place ≤ place = subst (λ (n : ℕ). n ≤ place) from_is c.begin-from.ensures.within in
-    let is : span_of run ≡ found b text place = ap span_of (run_is ∙ ap (λ (n : ℕ). over_from (table_run b) text n place) from_is) in
+    let low : begin b text place ≤ place = subst (λ (n : ℕ). n ≤ place) from_is c.begin.ensures.within in
+    let spanned : c.span.result ≡ span_of run = c.span.ensures in
+    let is : c.span.result ≡ found b text place = spanned ∙ ap span_of (run_is ∙ ap (λ (n : ℕ). over_from (table_run b) text n place) from_is) in
     record {
-      value = answers text place (found b text place) c.if-text-gt-LIMIT.false c.if-place-text.false (span_of run) is;
+      value = answers text place (found b text place) inside.0 inside.1 c.span.result is;
       as_cut_whole = λ steady.
-          answers text place (span_of (run_over_byte (cutting (table_run b) text) place)) c.if-text-gt-LIMIT.false c.if-place-text.false (span_of run)
-          (is ∙ found_whole t steady text place low c.if-place-text.false);
+          answers text place (span_of (run_over_byte (cutting (table_run b) text) place)) inside.0 inside.1 c.span.result
+          (is ∙ found_whole t steady text place low inside.1);
     }
