@@ -1,22 +1,17 @@
 -- Bits counted: those of a word, and those of rows whose bits lie below a bound.
-use Rattle.std.proofs.Common.{◌≡◌, ℕ, zero, suc, ◌+◌, ◌-◌, ◌/◌, ◌%◌, ◌^◌, ◌<◌, ◌≤◌, Bool, false, cond, eqb, List, length, get_or, take, sym, refl, ap, ◌∙◌, inl, inr, add-one, one-add, arith}
+use Rattle.std.proofs.Common.{◌≡◌, ℕ, zero, suc, ◌+◌, ◌/◌, ◌%◌, ◌^◌, ◌<◌, ◌≤◌, Bool, false, cond, eqb, List, length, get_or, take, sym, refl, ap, ◌∙◌, inl, inr, add-one, one-add, arith}
 use Rattle.std.specs.List.{sum_by}
 use Rattle.std.proofs.lemmas.List.{take_all}
 use Rattle.std.proofs.lemmas.List.Sums.{sum_by_more}
 use lib.Count.{ones, ones_step, ones_cat, ones-le}
-use Rattle.std.proofs.lemmas.Nat.{field_of, mod-pow-add, mod-mul-add, mod_below, pow_pos, shr_below, div-add-mod'}
+use Rattle.std.proofs.lemmas.Nat.{mod_below, pow_pos, shr_below, div-add-mod'}
+use Rattle.std.proofs.lemmas.Nat.Bits.{bit_at_cat_low}
 use Rattle.std.proofs.lemmas.Bool.{cond-true, cond-false, cases_eq, cases_lt, eq-eqb, ne_eqb}
 use Rattle.automata.specs.Sure.{holds, count_row, count_pairs}
 use Rattle.automata.proofs.Digits.{set_in}
 
--- the lowest bit of the low bits
-low : (m i : ℕ) → m % 2 ^ (i + 1) % 2 ≡ m % 2
-low m i = ap (λ (z : ℕ). z % 2) (mod-pow-add m i 1) ∙ mod-mul-add (m / 2 % 2 ^ i) 2 (m % 2) (mod_below m 2 (omega arith))
-
 bit_mod : (n k j : ℕ) → j < k → n % 2 ^ k / 2 ^ j % 2 ≡ n / 2 ^ j % 2
-bit_mod n k j h =
-    let e : k ≡ (k - j - 1 + 1) + j = omega arith in
-    ap (λ (z : ℕ). n % 2 ^ z / 2 ^ j % 2) e ∙ (ap (λ (z : ℕ). z % 2) (field_of n (k - j - 1 + 1) j) ∙ low (n / 2 ^ j) (k - j - 1))
+bit_mod n k j h = sym (bit_at_cat_low (n / 2 ^ k) k (n % 2 ^ k) j h) ∙ ap (λ (z : ℕ). z / 2 ^ j % 2) (div-add-mod' n (2 ^ k))
 
 count_mod : (k n m : ℕ) → k ≤ m → count_row (set_in (n % 2 ^ m)) k ≡ count_row (set_in n) k
 unfolding count_row

@@ -1,11 +1,11 @@
 -- Rows of bits, filled bit by bit and row by row.
-use Rattle.std.proofs.Common.{◌≡◌, ℕ, ◌+◌, ◌/◌, ◌%◌, ◌^◌, ◌<◌, ◌≤◌, Bool, false, eqb, List, length, get_or, set, Decides, sym, ap, ◌∙◌, subst, inl, inr, arith, pow_mono, below_more}
-use native.Mathlib.Nat.{zero-div, div-eq_of_lt}
+use Rattle.std.proofs.Common.{◌≡◌, ℕ, ◌+◌, ◌*◌, ◌/◌, ◌%◌, ◌^◌, ◌<◌, ◌≤◌, Bool, false, eqb, List, length, get_or, set, Decides, sym, ap, ◌∙◌, subst, inl, inr, arith, below_more}
 use lib.Bits.{bit_or}
+use mir.Syntax.{w128}
+use Rattle.std.proofs.lemmas.Nat.Bits.{bit_at-zero, bit_at_above, bit_at_set_same, bit_at_set_other}
 use Rattle.std.proofs.lemmas.List.{get_or-set_same, get_or-set_other, get_or_past}
 use Rattle.std.proofs.lemmas.Bool.{cases_lt, eq-eqb, ne_eqb, eqb-true}
 use Rattle.automata.specs.Sure.{holds}
-use Rattle.automata.proofs.Sets.{with_it, with_other}
 
 -- bit b of a word is set
 abbrev pub set_in : ℕ → ℕ → Bool
@@ -14,28 +14,24 @@ set_in n b = eqb (n / 2 ^ b % 2) 1
 pub unset : (n b : ℕ) → n / 2 ^ b % 2 ≡ 0 → set_in n b ≡ false
 unset n b z = ne_eqb _ 1 (omega arith)
 
-pub zero_bit : (b : ℕ) → 0 / 2 ^ b % 2 ≡ 0
-zero_bit b = ap (λ (n : ℕ). n % 2) (zero-div (2 ^ b))
-
 pub unset_zero : (b : ℕ) → set_in 0 b ≡ false
-unset_zero b = unset 0 b (zero_bit b)
+unset_zero b = unset 0 b (bit_at-zero b)
 
 -- a word has no bit beyond its width
 pub unset_past : (n k b : ℕ) → n < 2 ^ k → k ≤ b → set_in n b ≡ false
-unset_past n k b h le = let lt : n < 2 ^ b = omega (arith, pow_mono le) in unset n b (ap (λ (z : ℕ). z % 2) (div-eq_of_lt lt))
+unset_past n k b h le = unset n b (bit_at_above n k b h le)
 
 -- a row of bits, right below b and empty from there on
 abbrev pub Filled : (ℕ → Type 0) → ℕ → ℕ → Type 0
 Filled Q row b = ((j : ℕ) → j < b → Decides (set_in row j) (Q j)) × ((j : ℕ) → b ≤ j → row / 2 ^ j % 2 ≡ 0)
 
-pub fill_with : (Q : ℕ → Type 0) (row b x : ℕ) → x ≡ 2 ^ b → Filled Q row b → Q b → Filled Q (bit_or row x) (b + 1)
-fill_with Q row b x e f q =
-    rw e (
-      below_more _ b
-          (λ j lt. subst (λ (n : ℕ). Decides (eqb n 1) (Q j)) (sym (with_other row b j (omega arith))) (f.0 j lt))
-          (λ _. q, λ _. eq-eqb _ _ (with_it row b)),
-      λ j le. with_other row b j (omega arith) ∙ f.1 j (omega arith),
-    )
+pub fill_with : (Q : ℕ → Type 0) (row b : ℕ) → b < 128 → Filled Q row b → Q b → Filled Q (bit_or row (1 * 2 ^ b % 2 ^ 128)) (b + 1)
+fill_with Q row b lt f q = (
+  below_more _ b
+      (λ j h. subst (λ (n : ℕ). Decides (eqb n 1) (Q j)) (sym (bit_at_set_other w128 row b lt j (omega arith))) (f.0 j h))
+      (λ _. q, λ _. eq-eqb _ _ (bit_at_set_same w128 row b lt)),
+  λ j le. bit_at_set_other w128 row b lt j (omega arith) ∙ f.1 j (omega arith),
+)
 
 pub fill_without : (Q : ℕ → Type 0) (row b : ℕ) → Filled Q row b → (Q b → ⊥) → Filled Q row (b + 1)
 fill_without Q row b f q = (

@@ -1,5 +1,5 @@
 -- Rows that exit with an unsure last mark: where the mark is set, and a row for each such exit.
-use Rattle.std.proofs.Common.{◌≡◌, ℕ, ◌+◌, ◌<◌, ◌≤◌, Bool, true, false, ◌⊎◌, List, [], ◌∷◌, ◌++◌, length, get_or, Some, None, Decides, Option, sym, refl, ap, ◌∙◌, subst, inl, inr, append_assoc, arith}
+use Rattle.std.proofs.Common.{◌≡◌, ℕ, ◌+◌, ◌<◌, ◌≤◌, Bool, true, false, ◌⊎◌, List, [], ◌∷◌, ◌++◌, length, get_or, Some, None, Option, sym, refl, ap, ◌∙◌, subst, inl, inr, append_assoc, arith}
 use Rattle.std.proofs.lemmas.List.{get_or-append-add}
 use Rattle.std.proofs.lemmas.Bool.{cases_lt, le-leb, lt-leb, leb-true, leb-false, false≢true}
 use Rattle.automata.specs.Machine.{index, next, marked}
@@ -127,17 +127,6 @@ module _ (code : ℕ → ℕ → ℕ) (C : ℕ) where
           refl,
           inr (lt-leb 128 (code t e) l, (length front, on ∙ set ∙ stay ∙ ap Some same, pair_is front c rest e ∙ u)),
         )
-
--- an exit without a mark, in a state that no row leads to with an unsure mark already past
-pub shaky_quiet : (code : ℕ → ℕ → ℕ) (S C : ℕ) (sure : ℕ → ℕ → Bool) (reached late s d x : ℕ) (r : Bool) → x ≡ code s d → d < C → next x ≡ 0 → x < 128 → (Has late s → ⊥)
-    → Decides r (UnsureAt code S C sure reached s d) → Decides r (Shaky code S C sure reached late s d)
-shaky_quiet code S C sure reached late s d x r e lt z l free u = (
-  λ y. (lt, sym (ap next e) ∙ z, inr (subst (λ (n : ℕ). n < 128) e l, inr (u.0 y))),
-  λ y. elim y.2 [
-    | inl g ↦ absurd (omega (arith, g.0))
-    | inr q ↦ elim q.1 [ inl h ↦ absurd (free h) | inr v ↦ u.1 v ]
-  ],
-)
 
 -- what unsteady looks for: the states that are reached, those after an unsure mark, and what quiet codes reach from these
 module _ (code : ℕ → ℕ → ℕ) (S C : ℕ) (sure : ℕ → ℕ → Bool) (low : 3 ≤ S) (inside : Closed code S C) (reached after : ℕ)

@@ -51,6 +51,7 @@ impl Code {
         self.next() == 0
     }
 
+    // `quiet` stays a flag: an enum of loud and quiet would be no plainer, since the definitions speak of a Bool
     /// Whether the code exits and, where only quiet codes are asked for, does not mark.
     pub(crate) fn exits_by(self, quiet: bool) -> bool
         ensures { Decides result (Exits quiet self) }

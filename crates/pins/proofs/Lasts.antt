@@ -10,7 +10,7 @@ use Rattle.pins.specs.Order.{or_else, last_by, rising, IsInside}
 use Rattle.pins.proofs.Rising.{all_inside}
 
 -- it is what is found from the end
-pub last_is_found : (test : Pin → Bool) (qs : List Pin) → find test (reverse qs) ≡ last_by test qs
+last_is_found : (test : Pin → Bool) (qs : List Pin) → find test (reverse qs) ≡ last_by test qs
 last_is_found test [] = refl
 last_is_found test (q ∷ qs) =
     ap (find test) (reverse-append (q ∷ []) qs) ∙ find-append test (reverse qs) (q ∷ []) ∙ as_or (find test (reverse qs)) _
@@ -36,6 +36,11 @@ last_of P test (q ∷ qs) p a e = go (last_by test qs) (last_of P test qs p a.1)
         (cases_Bool (test q))
     go (Some x) rest e = rest e
 
-pub last_inside : (size : ℕ) (test : Pin → Bool) (qs : List Pin) (o : Option Pin) → rising size qs ≡ true → o ≡ last_by test qs → IfSome o (λ p. IsInside size p × (test p ≡ true))
+last_inside : (size : ℕ) (test : Pin → Bool) (qs : List Pin) (o : Option Pin) → rising size qs ≡ true → o ≡ last_by test qs → IfSome o (λ p. IsInside size p × (test p ≡ true))
 last_inside size test qs None s e = tt
 last_inside size test qs (Some p) s e = last_of (IsInside size) test qs p (all_inside size qs s) e
+
+-- what is found from the end of a rising list
+pub found_last : (size : ℕ) (test : Pin → Bool) (qs : List Pin) (o : Option Pin) → rising size qs ≡ true → o ≡ find test (reverse qs)
+    → (o ≡ last_by test qs) × IfSome o (λ p. IsInside size p × (test p ≡ true))
+found_last size test qs o s e = let is = e ∙ last_is_found test qs in (is, last_inside size test qs o s is)

@@ -39,6 +39,7 @@ impl StateTable<'_> {
         ensures within { (b : ℕ) → b < self.now.classes → Decides (result / 2 ^ b % 2 == 1) (Stops (code_of self.now) self.now.states set.bits b) }
         ensures beyond { (b : ℕ) → self.now.classes ≤ b → result / 2 ^ b % 2 ≡ 0 }
     {
+        // bits are set one by one: a `fold` over the classes would be no plainer
         let mut row = 0u128;
         for b in 0..self.classes {
             if self.stops(set, b) {
@@ -69,6 +70,7 @@ impl StateTable<'_> {
         ensures second { (a b : ℕ) → self.now.classes ≤ b → holds result.rows a b ≡ false }
     {
         let reached = self.reach();
+        // `array::from_fn` was tried: what it says of its 128 calls is too long for the proof of one to close
         let mut rows = [0; 128];
         for (a, row) in rows.iter_mut().enumerate() {
             *row = self.halt_row(reached, a);

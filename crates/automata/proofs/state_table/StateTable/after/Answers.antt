@@ -1,4 +1,4 @@
-use Rattle.std.proofs.Common.{◌≡◌, ℕ, ◌+◌, ◌≤◌, sym, ap, ◌∙◌, subst, inl, inr, arith}
+use Rattle.std.proofs.Common.{◌≡◌, ℕ, ◌+◌, ◌≤◌, sym, ap, ◌∙◌, subst}
 use Rattle.std.proofs.lemmas.Bool.{both_ways, eqb-false, eqb-true}
 use Rattle.automata.specs.Machine.{next}
 use Rattle.automata.specs.Sets.{Has}
@@ -7,9 +7,6 @@ use Rattle.automata.specs.declared.state_set.StateSet.{StateSet}
 use Rattle.automata.proofs.Gathers.{Gathers, gather_goes, gather_skips}
 use Rattle.automata.proofs.state_table.StateTable.after.Goals as goal
 use Rattle.automata.proofs.state_table.StateTable.after.Goals.{then-has+then-not-exits, then-has+else-not-exits, else-has}
-
-pub loop-state-init : goal.loop-state-init
-loop-state-init c = (omega arith, λ k h. h, λ s lt p. absurd (omega (arith, p.0)), λ k h. inl h)
 
 pub loop-state-preserved : goal.loop-state-preserved
 loop-state-preserved c =
@@ -36,14 +33,3 @@ loop-state-preserved c =
           subst Turned (sym w.all-is)
           (gather_skips table.states P to start state all (λ p. both_ways _ w.if-has.false (c.has.ensures.1 p.1)) c.loop-state.invariant)
     ]
-
-pub returns : goal.returns
-returns c =
-    let i = c.loop-state.invariant in
-    record {
-      sound = λ k h. elim (i.3 k h) [
-        | inl z ↦ absurd (c.empty-all.ensures k z)
-        | inr p ↦ (p.0, p.2.0, p.1, p.2.1, p.2.2, p.3)
-      ];
-      complete = λ k f. subst (Has c.loop-state.all.bits) f.5 (i.2 f.0 (omega (arith, f.2)) (f.1, f.3, f.4));
-    }

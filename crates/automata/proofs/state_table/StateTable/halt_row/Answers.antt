@@ -1,11 +1,7 @@
 use Rattle.automata.specs.Parts.{code_of}
 use Rattle.automata.proofs.Tables.{next_within}
-use Rattle.automata.proofs.Digits.{zero_bit}
 use Rattle.automata.proofs.Sures.{halts_where_stops}
 use Rattle.automata.proofs.state_table.StateTable.halt_row.Goals as goal
-
-pub returns-then-a-self-clause-beyond : goal.returns-then-a-self-clause-beyond
-returns-then-a-self-clause-beyond c b le = zero_bit b
 
 pub returns-clause-within : goal.returns-clause-within
 returns-clause-within c lt b le =

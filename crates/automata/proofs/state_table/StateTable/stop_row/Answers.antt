@@ -1,5 +1,4 @@
 use Rattle.std.proofs.Common.{ℕ, ◌+◌, ◌<◌, sym, subst, arith}
-use Rattle.std.proofs.lemmas.Nat.{one_shl}
 use Rattle.std.proofs.lemmas.Bool.{both_ways}
 use Rattle.automata.specs.Sure.{Stops}
 use Rattle.automata.specs.Parts.{code_of}
@@ -15,7 +14,7 @@ loop-b-preserved c =
     elim c.if-stops.branch [
       | then-stops w ↦
           subst Turned (sym w.row-is)
-          (fill_with Right c.loop-b.row c.loop-b.b _ (one_shl c.loop-b.b 128 few) c.loop-b.invariant (c.stops.ensures.0 w.if-stops.true))
+          (fill_with Right c.loop-b.row c.loop-b.b few c.loop-b.invariant (c.stops.ensures.0 w.if-stops.true))
       | else-stops w ↦
           subst Turned (sym w.row-is)
           (fill_without Right c.loop-b.row c.loop-b.b c.loop-b.invariant (λ q. both_ways _ w.if-stops.false (c.stops.ensures.1 q)))

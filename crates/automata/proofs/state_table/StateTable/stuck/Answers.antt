@@ -3,7 +3,7 @@ use Rattle.std.proofs.lemmas.Nat.{mul-add-lt}
 use Rattle.automata.specs.Stuck.{ExitsOn}
 use Rattle.automata.specs.Parts.{code_of}
 use Rattle.automata.proofs.Tables.{next_within}
-use Rattle.automata.proofs.Stucks.{first_stuck, first_least, after_within, stuck_least}
+use Rattle.automata.proofs.Stucks.{first_stuck, first_least, stuck_least}
 use Rattle.automata.proofs.state_table.StateTable.stuck.Goals as goal
 
 pub returns-in-Some : goal.returns-in-Some
@@ -19,12 +19,6 @@ returns-in-Some c =
       );
       within = omega arith;
     }
-
-pub closure-set-requires : goal.closure-set-requires
-closure-set-requires c =
-    let table = c.args.self.now in
-    let e = c.spread-after.ensures in
-    after_within (code_of table) table.states table.classes c.spread-after.result.bits c.empty.result.bits table.low (next_within table) c.empty.ensures e.adds e.only
 
 pub returns : goal.returns
 returns c =

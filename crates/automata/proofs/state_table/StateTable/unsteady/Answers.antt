@@ -4,14 +4,8 @@ use Rattle.automata.specs.Reach.{From}
 use Rattle.automata.specs.Sure.{holds}
 use Rattle.automata.specs.Parts.{code_of}
 use Rattle.automata.proofs.Tables.{next_within}
-use Rattle.automata.proofs.Unsteadies.{after_within, unsteady_least}
+use Rattle.automata.proofs.Unsteadies.{unsteady_least}
 use Rattle.automata.proofs.state_table.StateTable.unsteady.Goals as goal
-
-pub closure-late-requires : goal.closure-late-requires
-closure-late-requires c =
-    let table = c.args.self.now in
-    after_within (code_of table) table.states table.classes (holds c.args.sure.now.rows) table.low (next_within table)
-    c.reach-reached.result.bits c.spoilt-after.result.bits c.spoilt-after.ensures.sound
 
 pub returns : goal.returns
 returns c =

@@ -1,13 +1,8 @@
-use Rattle.std.proofs.Common.{◌≡◌, ℕ, get_or, sym, ap, ◌∙◌, rules, arith}
+use Rattle.std.proofs.Common.{◌≡◌, ℕ, get_or, sym, ap, ◌∙◌, arith}
 use Rattle.std.proofs.lemmas.Option.{gets}
 use Rattle.std.proofs.lemmas.Bool.{le-ltb}
 use Rattle.automata.proofs.Digits.{set_in, unset_past}
 use Rattle.automata.proofs.sure_pairs.SurePairs.has.Goals as goal
-
-pub returns-then-b-lt128 : goal.returns-then-b-lt128
-returns-then-b-lt128 c =
-    let is : c.unwrap_or-row.result ≡ get_or c.args.self.now.rows c.args.a 0 = search (rules, gets) in
-    ap (λ (n : ℕ). set_in n c.args.b) is
 
 pub returns-else-b-lt128 : goal.returns-else-b-lt128
 returns-else-b-lt128 c =

@@ -1,9 +1,6 @@
 use Rattle.std.proofs.Common.{inl, inr, arith, below_more}
 use Rattle.automata.proofs.state_table.steady.SteadyCheck.spoilt.Goals as goal
 
-pub loop-state-init : goal.loop-state-init
-loop-state-init c = (λ t lt lo. absurd (omega arith), λ k h. absurd (c.empty-all.ensures k h))
-
 pub loop-state-preserved : goal.loop-state-preserved
 loop-state-preserved c =
     let e = c.spread_spoilt-all.ensures in (
