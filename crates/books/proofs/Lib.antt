@@ -1,4 +1,5 @@
 pub mod Refusing
+pub mod Chosen
 pub mod Trues
 pub mod Pinnings
 pub mod PinLaws

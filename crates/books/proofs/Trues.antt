@@ -1,5 +1,6 @@
 -- Walking from a true pin.
-use Rattle.std.proofs.Common.{◌≡◌, ℕ, ◌+◌, ◌-◌, ◌<◌, ◌≤◌, Bool, true, ltb, List, length, get_or, take, drop, Some, None, Ok, Err, Option, unwrap_or, sym, refl, ap, ◌∙◌, subst, arith, length-append}
+use Rattle.std.proofs.Common.{◌≡◌, ℕ, ◌+◌, ◌-◌, ◌<◌, ◌≤◌, Bool, true, ltb, List, length, get_or, take, drop, Some, None, Ok, Err, Option, sym, refl, ap, ◌∙◌, subst, arith, length-append}
+use Rattle.std.specs.Option.{UnwrapsOrElse}
 use Rattle.std.specs.List.{AllByRecursion}
 use Rattle.std.proofs.lemmas.Bool.{and_parts, ltb-true, cond-true, cond-false, lt-ltb, le-ltb}
 use Rattle.std.proofs.lemmas.List.{length-map, get_or-map}
@@ -56,9 +57,10 @@ module _ (run : List ℕ → ℕ) (b : Bounded run) (parts : List ℕ → List �
       }
 
   -- the pin that was found, or the text's start
-  pub start_found : (test : Pin → Bool) (qs : List Pin) → AllByRecursion (TruePin run parts text) qs → (r : Option Pin) → r ≡ last_by test qs → (q : Pin) → q ≡ unwrap_or r nought → Start q
-  start_found test qs a None e q is = subst Start (sym is) first_start
-  start_found test qs a (Some p) e q is = subst Start (sym is) (true_start p (last_of (TruePin run parts text) test qs p a e).0)
+  pub start_found : (test : Pin → Bool) (qs : List Pin) → AllByRecursion (TruePin run parts text) qs → (r : Option Pin) → r ≡ last_by test qs
+      → (P : Pin → Type 0) → ((q : Pin) → P q → q ≡ nought) → (q : Pin) → UnwrapsOrElse r P q → Start q
+  start_found test qs a None e P default q is = subst Start (sym (default q is)) first_start
+  start_found test qs a (Some p) e P default q is = subst Start (sym is) (true_start p (last_of (TruePin run parts text) test qs p a e).0)
 
   -- the run over a place
   pub look_from : (q : Pin) (place : ℕ) → Start q → q.place ≤ place → (r : Run) → r ≡ over_from run text q.place place → a_run (q.number + r.number) r.start r.end ≡ run_over_byte (cutting run text) place

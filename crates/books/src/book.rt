@@ -1,5 +1,6 @@
 mod apply;
 mod check;
+mod judge;
 mod open;
 mod pin;
 mod put;

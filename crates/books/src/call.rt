@@ -1,9 +1,13 @@
+ghost use Rattle.std.specs.Prelude.{◌≡◌};
+ghost use Rattle.books.specs.declared.call.Halt.TheVariants.{Refused, NoMemory};
+
 use pins::{Pin, Pins};
 use refusals::Refusal;
 use rules::{Run, Span};
+use std::alloc::AllocError;
 
 /// One of the seven calls of a book, with its numbers.
-#[derive(Clone, Copy)]
+#[derive(Clone, Copy, PartialEq, Eq, Debug)]
 pub enum Call {
     /// The run over the byte at a place.
     Look(usize),
@@ -22,7 +26,7 @@ pub enum Call {
 }
 
 /// A call, handed the text as it is; or, with a length, a text of so many bytes.
-#[derive(Clone, Copy)]
+#[derive(Clone, Copy, PartialEq, Eq, Debug)]
 pub struct Step {
     pub call: Call,
     pub handed: Option<u16>,
@@ -58,10 +62,26 @@ pub struct Replay {
 }
 
 /// Why a list of steps was not begun.
-#[derive(Clone, Copy)]
+#[derive(Clone, Copy, PartialEq, Eq, Debug)]
 pub enum Halt {
     /// The text is refused.
     Refused(Refusal),
     /// There is no memory for the list of answers.
     NoMemory,
+}
+
+impl From<Refusal> for Halt {
+    ghost from_gives = { λ refusal halt. halt ≡ Refused refusal };
+
+    fn from(refusal: Refusal) -> Halt {
+        Halt::Refused(refusal)
+    }
+}
+
+impl From<AllocError> for Halt {
+    ghost from_gives = { λ _ halt. halt ≡ NoMemory };
+
+    fn from(_error: AllocError) -> Halt {
+        Halt::NoMemory
+    }
 }

@@ -3,7 +3,6 @@
 
 pub mod book;
 pub mod call;
-mod change;
 
 pub use book::Book;
 pub use book::replay::replay;

@@ -9,7 +9,7 @@ ghost use Rattle.books.specs.Strange.{PinWithin, PinRefused, UnpinRefused};
 use super::Book;
 use pins::Pin;
 use refusals::Refusal;
-use rules::Rule;
+use rules::{Page, Rule};
 use windows::wall_not_above;
 
 impl<R: Rule> Book<R> {
@@ -24,7 +24,11 @@ impl<R: Rule> Book<R> {
         ensures other { (length text.now ≢ self.old.pins.size) → result ≡ Err (OtherLength (length text.now)) }
     {
         self.check_place(text, place)?;
-        let wall = wall_not_above(&self.rule, text, place);
+        let page = Page {
+            rule: &self.rule,
+            text,
+        };
+        let wall = wall_not_above(&page, place);
         if let Some(pin) = self.pins.at(wall) {
             return Ok(pin);
         }
@@ -32,13 +36,8 @@ impl<R: Rule> Book<R> {
             place: wall,
             number: self.run_over(text, wall).number,
         };
-        match self.pins.with(pin) {
-            Some(pins) => {
-                self.pins = pins;
-                Ok(pin)
-            }
-            None => Err(Refusal::PinsFull),
-        }
+        self.pins = self.pins.with(pin).ok_or(Refusal::PinsFull)?;
+        Ok(pin)
     }
 
     /// Lets the pin at a place go, and answers its number.
@@ -51,12 +50,8 @@ impl<R: Rule> Book<R> {
         ensures other { (length text.now ≢ self.old.pins.size) → result ≡ Err (OtherLength (length text.now)) }
     {
         self.check_place(text, place)?;
-        match self.pins.at(place) {
-            Some(pin) => {
-                self.pins = self.pins.without(place);
-                Ok(pin.number)
-            }
-            None => Err(Refusal::NoPin(place)),
-        }
+        let pin = self.pins.at(place).ok_or(Refusal::NoPin(place))?;
+        self.pins = self.pins.without(place);
+        Ok(pin.number)
     }
 }

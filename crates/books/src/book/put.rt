@@ -6,9 +6,9 @@ ghost use Rattle.books.specs.Moves.{renumbered, Upset};
 
 use super::Book;
 use crate::call::Change;
-use crate::change::judge;
 use refusals::Refusal;
 use rules::Rule;
+use windows::Edit;
 
 impl<R: Rule> Book<R> {
     /// Answers as `put` would. The text is as it was on every way out, and so is the book.
@@ -20,7 +20,7 @@ impl<R: Rule> Book<R> {
         ensures rule { self.new.rule ≡ self.old.rule }
     {
         self.check_place(text, place)?;
-        Ok(judge(&self.rule, &self.pins, text, place, byte).change)
+        Ok(self.judge(text, Edit { place, byte }).change)
     }
 
     /// Writes a byte at a place. Answers the window outside which nothing moved, the difference in runs, and how many pins
@@ -34,7 +34,7 @@ impl<R: Rule> Book<R> {
         ensures rule { self.new.rule ≡ self.old.rule }
     {
         self.check_place(text, place)?;
-        let judged = judge(&self.rule, &self.pins, text, place, byte);
+        let judged = self.judge(text, Edit { place, byte });
         text[place] = byte;
         self.pins = judged.pins;
         Ok(judged.change)

@@ -11,7 +11,7 @@ ghost use Rattle.books.specs.Strange.{RunWithin, SpanWithin, PinWithin, NumberRe
 use super::Book;
 use pins::Pin;
 use refusals::Refusal;
-use rules::{Rule, Run, Span, walk_past, walk_to};
+use rules::{Page, Rule, Run, Span};
 
 impl<R: Rule> Book<R> {
     // The run over a place, with runs counted from the nearest pin that is not above it.
@@ -20,15 +20,15 @@ impl<R: Rule> Book<R> {
         ensures value { Faithful (R.Rule.run self.now.rule) (R.Rule.parts self.now.rule) self.now text.now → result ≡ run_over_byte (cutting (R.Rule.run self.now.rule) text.now) place }
         ensures within { RunWithin (length text.now) place result }
     {
-        let pin = self.pins.nearest(place).unwrap_or(Pin {
-            place: 0,
-            number: 0,
-        });
-        let run = walk_to(&self.rule, text, pin.place, place);
+        let pin = self.pins.nearest(place).unwrap_or_default();
+        let page = Page {
+            rule: &self.rule,
+            text,
+        };
+        let run = page.walk_to(pin.place, place);
         Run {
             number: pin.number + run.number,
-            start: run.start,
-            end: run.end,
+            ..run
         }
     }
 
@@ -49,17 +49,15 @@ impl<R: Rule> Book<R> {
         ensures other { (length text.now ≢ self.now.pins.size) → result ≡ Err (OtherLength (length text.now)) }
     {
         self.check_length(text)?;
-        let pin = self.pins.nearest_numbered(number).unwrap_or(Pin {
-            place: 0,
-            number: 0,
-        });
-        match walk_past(&self.rule, text, pin.place, number - pin.number) {
-            Some(run) => Ok(Span {
-                start: run.start,
-                end: run.end,
-            }),
-            None => Err(Refusal::NumberOutside(number)),
-        }
+        let pin = self.pins.nearest_numbered(number).unwrap_or_default();
+        let page = Page {
+            rule: &self.rule,
+            text,
+        };
+        let run = page
+            .walk_past(pin.place, number - pin.number)
+            .ok_or(Refusal::NumberOutside(number))?;
+        Ok(run.span())
     }
 
     /// The pin of an index, from 0 in the order of their places: its place and its number.
@@ -69,9 +67,6 @@ impl<R: Rule> Book<R> {
         ensures other { (length text.now ≢ self.now.pins.size) → result ≡ Err (OtherLength (length text.now)) }
     {
         self.check_length(text)?;
-        match self.pins.get(k) {
-            Some(pin) => Ok(pin),
-            None => Err(Refusal::NumberOutside(k)),
-        }
+        self.pins.get(k).ok_or(Refusal::NumberOutside(k))
     }
 }

@@ -63,14 +63,10 @@ where
     ensures not_begun { MatchResult result (λ _. length text.old ≤ 16383) (Halted text.old) }
 {
     let mut book = Book::new(rule);
-    if let Err(refusal) = book.open(text) {
-        return Err(Halt::Refused(refusal));
-    }
-    match book.carry_out(heap, text, steps) {
-        Ok(answers) => Ok(Replay {
-            answers,
-            pins: book.pins,
-        }),
-        Err(_) => Err(Halt::NoMemory),
-    }
+    book.open(text)?;
+    let answers = book.carry_out(heap, text, steps)?;
+    Ok(Replay {
+        answers,
+        pins: book.pins,
+    })
 }
