@@ -43,6 +43,7 @@ impl StateTable<'_> {
         ensures first { FirstCode (F.post first) self.now.states self.now.classes result }
         ensures within { IfSome result (λ k. k < (self.now.states - 1) * self.now.classes) }
     {
+        // `find_map` was tried: it leaves both clauses open, which the loop proves by its invariant alone
         for state in 1..self.states {
             if let Some(class) = first(state) {
                 return Some((state - 1) * self.classes + class);
