@@ -17,6 +17,7 @@ pub struct Window {
 
 impl Edit {
     // The greatest place not above the changed one that is a wall of both texts.
+    #[tactic(auto, using(crate::proofs::Searches::greatest_here, crate::proofs::Searches::greatest_none, crate::proofs::Searches::greatest_down))]
     fn window_from<R: Rule>(self, rule: &R, text: &mut [u8]) -> usize
         requires { (length text.old ≤ 16383) × (self.place < length text.old) }
         ensures restored { text.new ≡ text.old }
@@ -32,6 +33,7 @@ impl Edit {
     }
 
     // The least place above the changed one that is a wall of both texts, or their end.
+    #[tactic(auto, using(crate::proofs::Searches::least_here, crate::proofs::Searches::least_none, crate::proofs::Searches::least_up))]
     fn window_to<R: Rule>(self, rule: &R, text: &mut [u8]) -> usize
         requires { (length text.old ≤ 16383) × (self.place < length text.old) }
         ensures restored { text.new ≡ text.old }
