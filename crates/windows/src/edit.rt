@@ -13,6 +13,7 @@ pub struct Edit {
     pub byte: u8,
 }
 
+// Rule and text stay parameters: a struct that held the text as `&mut` would owe in each method that nothing in it changed.
 impl Edit {
     // What the rule answers about a wall in the text as the edit would leave it. The text is given back as it was, on a
     // refusal too.
