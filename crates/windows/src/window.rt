@@ -24,6 +24,7 @@ impl Edit {
         ensures value { result ≡ window_begin (R.parts rule.now) text.old (edited self text.old) self.place }
         ensures within { result ≤ self.place }
     {
+        // a loop, since the closure of a chain would change what it captures, the text
         for from in (1..=self.place).rev() {
             if self.is_wall_of_both(rule, text, from) {
                 return from;
