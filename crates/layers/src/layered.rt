@@ -44,6 +44,7 @@ pub fn layer_end<R: Rule, S: Seam>(
 {
     let mut at = below.end(text, place)?;
     let page = Page { rule: below, text };
+    // the iterator of runs would look for the end of one run more than is glued
     while at < text.len() && seam.glued(text[at - 1], text[at]) {
         at = page.run_end(at);
     }

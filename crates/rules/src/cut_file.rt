@@ -31,6 +31,7 @@ fn write_records<R: Rule>(page: &Page<R>, buffer: &mut [u8]) -> usize
 }
 
 // Refuses a buffer of so many bytes where the cut file is longer.
+#[tactic(auto, using(crate::specs::Cuts::runs_few))]
 fn check_room<R: Rule>(page: &Page<R>, room: usize) -> Result<(), Refusal>
     ensures answer { result ≡ room_for (R.run page.now.rule.now) page.now.text.now room }
     ensures enough { OnOk result (file_size (R.run page.now.rule.now) page.now.text.now ≤ room) }

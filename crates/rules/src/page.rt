@@ -39,6 +39,7 @@ impl<'a, R: Rule> Page<'a, R> {
     }
 
     /// Whether a wall stands at a place.
+    #[tactic(auto, using(crate::proofs::Lawful::wall_joined))]
     pub fn is_wall(&self, place: usize) -> bool
         requires { place < length self.now.text.now }
         ensures value { result ≡ wall_at (R.parts self.now.rule.now) self.now.text.now place }

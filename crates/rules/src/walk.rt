@@ -36,6 +36,7 @@ impl<'a, R: Rule> Iterator for Runs<'a, R> {
 
     ghost remaining = { item_count (λ rest. rest) };
 
+    #[tactic(auto, using(crate::proofs::RunLists::none_left, crate::proofs::RunLists::first_left))]
     fn next(&mut self) -> Option<Run> {
         let start = self.start;
         if start == self.page.text.len() {
@@ -70,6 +71,7 @@ impl<'a, R: Rule> Page<'a, R> {
     }
 
     /// How many runs there are.
+    #[tactic(auto, using(crate::specs::Cuts::runs_few, crate::proofs::RunLists::runs_size))]
     pub fn count_runs(&self) -> usize
         ensures { result ≡ length (cutting (R.run self.now.rule.now) self.now.text.now) }
     {

@@ -9,6 +9,7 @@ use refusals::Refusal;
 
 /// How many runs there are before a wall, counted in the text before it alone; None where no wall stands. No run
 /// crosses a wall.
+#[tactic(auto, using(crate::proofs::WallLaws::parted_number, crate::proofs::WallLaws::parted_uncrossed, crate::proofs::Lawful::wall_joined))]
 pub fn runs_before<R: Rule>(rule: &R, text: &[u8], place: usize) -> Result<Option<usize>, Refusal>
     ensures alone { result ≡ at_wall (R.parts rule.now) text.now place (length (cutting (R.run rule.now) (take place text.now))) }
     ensures before { result ≡ at_wall (R.parts rule.now) text.now place (starts_below place (cutting (R.run rule.now) text.now)) }

@@ -13,6 +13,7 @@ pub struct Edit {
     pub byte: u8,
 }
 
+// Rule and text stay parameters: a struct with a `&mut` text is no plainer, since each method would promise that nothing in it changed.
 impl Edit {
     // What the rule answers about a wall in the text as the edit would leave it. The text is given back as it was, on a
     // refusal too.
@@ -26,8 +27,8 @@ impl Edit {
         Ok(wall)
     }
 
-    /// Whether a wall of both texts, with the old byte and with the new one, stands at a place.
-    pub fn is_wall_of_both<R: Rule>(self, rule: &R, text: &mut [u8], at: usize) -> bool
+    // Whether a wall of both texts, with the old byte and with the new one, stands at a place.
+    pub(crate) fn is_wall_of_both<R: Rule>(self, rule: &R, text: &mut [u8], at: usize) -> bool
         requires { (length text.old ≤ 16383) × ((self.place < length text.old) × (at < length text.old)) }
         ensures restored { text.new ≡ text.old }
         ensures value { result ≡ both_walls (R.parts rule.now) text.old (edited self text.old) at }

@@ -17,12 +17,14 @@ pub struct Window {
 
 impl Edit {
     // The greatest place not above the changed one that is a wall of both texts.
+    #[tactic(auto, using(crate::proofs::Searches::greatest_here, crate::proofs::Searches::greatest_none, crate::proofs::Searches::greatest_down))]
     fn window_from<R: Rule>(self, rule: &R, text: &mut [u8]) -> usize
         requires { (length text.old ≤ 16383) × (self.place < length text.old) }
         ensures restored { text.new ≡ text.old }
         ensures value { result ≡ window_begin (R.parts rule.now) text.old (edited self text.old) self.place }
         ensures within { result ≤ self.place }
     {
+        // a loop, since the closure of a chain would change what it captures, the text
         for from in (1..=self.place).rev() {
             if self.is_wall_of_both(rule, text, from) {
                 return from;
@@ -32,6 +34,7 @@ impl Edit {
     }
 
     // The least place above the changed one that is a wall of both texts, or their end.
+    #[tactic(auto, using(crate::proofs::Searches::least_here, crate::proofs::Searches::least_none, crate::proofs::Searches::least_up))]
     fn window_to<R: Rule>(self, rule: &R, text: &mut [u8]) -> usize
         requires { (length text.old ≤ 16383) × (self.place < length text.old) }
         ensures restored { text.new ≡ text.old }
