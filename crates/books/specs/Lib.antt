@@ -3,3 +3,4 @@ pub mod Faithful
 pub mod Strange
 pub mod Moves
 pub mod Promises
+pub mod Lines

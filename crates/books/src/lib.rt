@@ -3,6 +3,7 @@
 
 pub mod book;
 pub mod call;
+mod lines;
 
 pub use book::Book;
 pub use book::replay::replay;

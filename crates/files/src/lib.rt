@@ -1,6 +1,9 @@
-//! What the programs read: the files `table` and `text`, and standard input.
+//! What the programs read: the files `table` and `text`, and standard input; and how they end without an answer.
 #![tactic(auto)]
 
+mod failure;
+
+pub use failure::{Failure, tell};
 use std::fs::File;
 use std::io;
 use std::io::{ErrorKind, Read};
@@ -18,11 +21,8 @@ fn read_file(rt: &HostRuntime, name: &str, limit: u64) -> io::Result<Vec<u8>> {
         Ok(file) => {
             file.take(limit).read_to_end(&mut bytes)?;
         }
-        Err(e) => {
-            if e.kind() != ErrorKind::NotFound {
-                return Err(e);
-            }
-        }
+        Err(error) if error.kind() == ErrorKind::NotFound => {}
+        Err(error) => return Err(error),
     }
     Ok(bytes)
 }

@@ -2,7 +2,7 @@
 #![tactic(auto)]
 
 use breaks::TableRule;
-use files::{TEXT_LIMIT, read_input, read_table};
+use files::{Failure, TEXT_LIMIT, read_input, read_table, tell};
 use finds::find;
 use requests::number;
 use std::env::Env;
@@ -25,37 +25,27 @@ fn show(rt: &HostRuntime, rule: &TableRule, text: &[u8], word: &[u8]) -> io::Res
         return println!(rt; ": not a place");
     };
     match find(rule, text, place) {
-        Ok(found) => {
-            let start = found.start;
-            let end = found.end;
-            println!(rt; "start {start} end {end}")
-        }
-        Err(refusal) => {
-            let report = refusal.report();
-            println!(rt; "{report}")
-        }
+        Ok(found) => println!(rt; "{found}"),
+        Err(refusal) => println!(rt; "{refusal}"),
     }
 }
 
 // Writes the line of each argument but the first, which is the program's own name.
-fn show_all(rt: &HostRuntime, rule: &TableRule, text: &[u8], word: &mut [u8]) -> io::Result<()> {
+fn show_all(rt: &HostRuntime) -> Result<(), Failure> {
+    let table = Table::accept(read_table(rt)?).map_err(|rejected| rejected.refusal)?;
+    let rule = TableRule { table };
+    let text = read_input(rt, TEXT_LIMIT)?;
+    // an argument need not be UTF-8, as a String is, and its bytes are written back
+    let mut word = [0; WORD_MOST];
     for i in 1..usize::MAX {
-        let Ok(size) = rt.arg(i, word) else {
+        let Ok(size) = rt.arg(i, &mut word) else {
             break;
         };
-        show(rt, rule, text, &word[..size])?;
+        show(rt, &rule, &text, &word[..size])?;
     }
     Ok(())
 }
 
 fn main(rt: HostRuntime) -> io::Result<()> {
-    let rule = match Table::accept(read_table(&rt)?) {
-        Ok(table) => TableRule { table },
-        Err(rejected) => {
-            let report = rejected.refusal.report();
-            return println!(rt; "{report}");
-        }
-    };
-    let text = read_input(&rt, TEXT_LIMIT)?;
-    show_all(&rt, &rule, &text, &mut [0; WORD_MOST])
+    tell(&rt, show_all(&rt))
 }

@@ -1,22 +1,16 @@
 //! Tells of the break table in the file `table` how many states, classes and sure pairs it has, or its first fault.
 #![tactic(auto)]
 
-use files::read_table;
+use files::{Failure, read_table, tell};
 use std::io;
 use tables::examine;
 
+fn inspect(rt: &HostRuntime) -> Result<(), Failure> {
+    let summary = examine(&read_table(rt)?)?;
+    println!(rt; "{summary}")?;
+    Ok(())
+}
+
 fn main(rt: HostRuntime) -> io::Result<()> {
-    let table = read_table(&rt)?;
-    match examine(&table) {
-        Ok(summary) => {
-            let states = summary.states;
-            let classes = summary.classes;
-            let sure = summary.sure;
-            println!(rt; "states {states} classes {classes} sure {sure}")
-        }
-        Err(refusal) => {
-            let report = refusal.report();
-            println!(rt; "{report}")
-        }
-    }
+    tell(&rt, inspect(&rt))
 }

@@ -50,7 +50,7 @@ pub enum Refusal {
     NoPin(usize),
 }
 
-/// What a refusal tells its caller.
+/// What a refusal tells its caller: the numbers by which users know it.
 #[derive(Clone, Copy, PartialEq, Eq, Debug)]
 pub struct Report {
     pub number: u8,
@@ -110,5 +110,15 @@ impl fmt::Display for Report {
         let part = self.part;
         let place = self.place;
         write!(f, "refused {number} part {part} place {place}")
+    }
+}
+
+/// The line of its report.
+impl fmt::Display for Refusal {
+    ghost output = { λ r. Some (line_of (report_of r)) };
+
+    fn fmt<W: fmt::Write>(&self, f: &mut fmt::Formatter<W>) -> fmt::Result {
+        let report = self.report();
+        write!(f, "{report}")
     }
 }

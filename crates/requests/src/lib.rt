@@ -7,4 +7,4 @@ mod request;
 
 pub use base::Base;
 pub use decimal::{byte, number};
-pub use request::{BaseName, Request};
+pub use request::{BaseName, Request, Unread};

@@ -1,16 +1,17 @@
+ghost use Rattle.std.specs.Prelude.{◌≡◌};
+ghost use Rattle.requests.specs.declared.request.Unread.TheVariants.{NoMemory};
+
 use crate::base::Base;
 use crate::decimal::byte;
 use breaks::TableRule;
-use files::read_table;
+use files::{Failure, read_table};
 use layers::{Layer, Pile};
-use refusals::Refusal;
 use rules::Line;
-use std::alloc::{AllocError, Global};
-use std::io;
+use std::alloc::{AllocError, AllocFailed, Global};
 use tables::Table;
 
 /// The name of a rule that stands on no other.
-#[derive(Clone, Copy)]
+#[derive(Clone, Copy, PartialEq, Eq, Debug)]
 pub enum BaseName {
     /// The break table in the file `table`.
     Table,
@@ -24,14 +25,36 @@ pub struct Request {
     pub layers: Vec<Layer>,
 }
 
+/// Why a line is no request.
+#[derive(Clone, Copy, PartialEq, Eq, Debug)]
+pub enum Unread {
+    /// It names no rule.
+    NoRule,
+    /// There is no memory for what it names.
+    NoMemory,
+}
+
+impl From<AllocError> for Unread {
+    ghost from_gives = { λ _ unread. unread ≡ NoMemory };
+
+    fn from(_error: AllocError) -> Unread {
+        Unread::NoMemory
+    }
+}
+
+impl<T: Drop> From<AllocFailed<T>> for Unread {
+    ghost from_gives = { λ _ unread. unread ≡ NoMemory };
+
+    fn from(_error: AllocFailed<T>) -> Unread {
+        Unread::NoMemory
+    }
+}
+
 // The rule that two words name.
 fn named_base(first: &str, second: &str) -> Option<BaseName> {
-    if first != "rule" {
-        return None;
-    }
-    match second {
-        "table" => Some(BaseName::Table),
-        "line" => Some(BaseName::Line),
+    match (first, second) {
+        ("rule", "table") => Some(BaseName::Table),
+        ("rule", "line") => Some(BaseName::Line),
         _ => None,
     }
 }
@@ -47,46 +70,39 @@ fn named_layer(name: &str, digits: &str) -> Option<Layer> {
 }
 
 // The layers that words name, two words to each.
-fn named_layers(heap: Global, words: &[&str]) -> Result<Option<Vec<Layer>>, AllocError> {
+fn named_layers(heap: Global, words: &[&str]) -> Result<Vec<Layer>, Unread> {
     let mut layers = Vec::new(heap);
     for pair in words.chunks(2) {
         let [name, digits] = pair else {
-            return Ok(None);
+            return Err(Unread::NoRule);
         };
-        let Some(layer) = named_layer(name, digits) else {
-            return Ok(None);
-        };
-        layers.push(layer)?;
+        layers.push(named_layer(name, digits).ok_or(Unread::NoRule)?)?;
     }
-    Ok(Some(layers))
+    Ok(layers)
 }
 
 impl Request {
     /// Reads a line as `rule table joint 45`: the base, then any layers. Words are parted by one blank.
-    pub fn parse(heap: Global, line: &str) -> Result<Option<Request>, AllocError> {
+    pub fn parse(heap: Global, line: &str) -> Result<Request, Unread> {
         let words: Vec<&str> = line.split(' ').collect(heap)?;
         let [first, second, rest @ ..] = words.as_slice() else {
-            return Ok(None);
+            return Err(Unread::NoRule);
         };
-        let Some(base) = named_base(first, second) else {
-            return Ok(None);
-        };
-        let Some(layers) = named_layers(heap, rest)? else {
-            return Ok(None);
-        };
-        Ok(Some(Request { base, layers }))
+        let base = named_base(first, second).ok_or(Unread::NoRule)?;
+        let layers = named_layers(heap, rest)?;
+        Ok(Request { base, layers })
     }
 
     /// The rule itself; a table is read and judged only here.
-    pub fn rule(self, rt: &HostRuntime) -> io::Result<Result<Pile<Base>, Refusal>> {
+    pub fn rule(self, rt: &HostRuntime) -> Result<Pile<Base>, Failure> {
         let Request { base, layers } = self;
         let below = match base {
             BaseName::Line => Base::Line(Line),
-            BaseName::Table => match Table::accept(read_table(rt)?) {
-                Ok(table) => Base::Table(TableRule { table }),
-                Err(rejected) => return Ok(Err(rejected.refusal)),
-            },
+            BaseName::Table => {
+                let table = Table::accept(read_table(rt)?).map_err(|rejected| rejected.refusal)?;
+                Base::Table(TableRule { table })
+            }
         };
-        Ok(Ok(Pile { below, layers }))
+        Ok(Pile { below, layers })
     }
 }

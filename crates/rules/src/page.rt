@@ -12,6 +12,7 @@ pub struct Page<'a, R> {
     ghost short: { length text.now ≤ 16383 },
 }
 
+// by hand: a derive would ask that R be cloned, which a reference to it does not need
 impl<'a, R> Clone for Page<'a, R> {
     ghost is_clone = { λ page copy. copy ≡ page };
 

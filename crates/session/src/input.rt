@@ -1,5 +1,5 @@
 use books::{Call, Step};
-use requests::{Request, byte, number};
+use requests::{Request, Unread, byte, number};
 use std::alloc::{AllocError, Global};
 
 /// What standard input asks for: a rule, and what stands on each line after the first, None where that is no call.
@@ -56,7 +56,7 @@ fn step_of(words: &[&str]) -> Option<Step> {
     }
 }
 
-// What stands on a line; words are parted by one blank.
+// What stands on a line; words are parted by one blank. None, for a line that is no call, is what is kept of it.
 fn step_on(heap: Global, line: &[u8]) -> Result<Option<Step>, AllocError> {
     let Ok(line) = std::str::from_utf8(line) else {
         return Ok(None);
@@ -65,50 +65,23 @@ fn step_on(heap: Global, line: &[u8]) -> Result<Option<Step>, AllocError> {
     Ok(step_of(&words))
 }
 
-// The lines of a text; the last one need not be closed.
-fn lines_of(heap: Global, bytes: &[u8]) -> Result<Vec<&[u8]>, AllocError> {
-    let mut lines = Vec::new(heap);
-    let mut start = 0;
-    for (i, byte) in bytes.iter().enumerate() {
-        if *byte == b'\n' {
-            lines.push(&bytes[start..i])?;
-            start = i + 1;
-        }
-    }
-    if start < bytes.len() {
-        lines.push(&bytes[start..])?;
-    }
-    Ok(lines)
-}
-
 impl Input {
-    /// Reads all lines. None where the first one names no rule.
-    pub fn parse(heap: Global, bytes: &[u8]) -> Result<Option<Input>, AllocError> {
-        let lines = lines_of(heap, bytes)?;
-        let [first, rest @ ..] = lines.as_slice() else {
-            return Ok(None);
-        };
-        let Ok(first) = std::str::from_utf8(first) else {
-            return Ok(None);
-        };
-        let Some(request) = Request::parse(heap, first)? else {
-            return Ok(None);
-        };
+    /// Reads all lines; the last one need not be closed.
+    pub fn parse(heap: Global, bytes: &[u8]) -> Result<Input, Unread> {
+        let closed = bytes.strip_suffix(b"\n").unwrap_or(bytes);
+        let mut rest = closed.split(|byte| *byte == b'\n');
+        let first = rest.next().ok_or(Unread::NoRule)?;
+        let first = std::str::from_utf8(first).map_err(|_| Unread::NoRule)?;
+        let request = Request::parse(heap, first)?;
         let mut lines = Vec::new(heap);
         for line in rest {
             lines.push(step_on(heap, line)?)?;
         }
-        Ok(Some(Input { request, lines }))
+        Ok(Input { request, lines })
     }
 }
 
 /// The steps among the lines, in order.
 pub fn steps_of(heap: Global, lines: &[Option<Step>]) -> Result<Vec<Step>, AllocError> {
-    let mut steps = Vec::new(heap);
-    for line in lines {
-        if let Some(step) = line {
-            steps.push(*step)?;
-        }
-    }
-    Ok(steps)
+    lines.iter().copied().flatten().collect(heap)
 }

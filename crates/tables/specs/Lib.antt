@@ -7,3 +7,4 @@ pub mod Verdicts
 pub mod Steady
 pub mod Laid
 pub mod Meaning
+pub mod Lines

@@ -1,7 +1,11 @@
 pub mod judge;
 
+ghost use Rattle.std.specs.Prelude.{Some};
+ghost use Rattle.tables.specs.Lines.{summary_line};
+
 use crate::layout::Layout;
 use automata::sure_pairs::SurePairs;
+use std::fmt;
 
 /// What is told of an accepted table.
 #[derive(Clone, Copy, PartialEq, Eq, Debug)]
@@ -19,4 +23,18 @@ pub struct Summary {
 pub struct Judgement {
     pub sure: SurePairs,
     pub layout: Layout,
+}
+
+/// The line `states S classes C sure K`.
+impl fmt::Display for Summary {
+    ghost output = { λ s. Some (summary_line s) };
+
+    fn fmt<W: fmt::Write>(&self, f: &mut fmt::Formatter<W>) -> fmt::Result {
+        let Summary {
+            states,
+            classes,
+            sure,
+        } = *self;
+        write!(f, "states {states} classes {classes} sure {sure}")
+    }
 }

@@ -4,95 +4,27 @@
 mod request;
 mod show;
 
-use breaks::TableRule;
-use files::{read_input, read_table};
-use layers::{Joint, Tail};
-use request::{Base, FIRST_LIMIT, Layer, parse};
-use rules::{Line, Rule};
+use files::{Failure, TEXT_LIMIT, read_input, tell};
+use request::{FIRST_LIMIT, parse};
+use requests::Unread;
 use show::show;
+use std::alloc::AllocError;
 use std::io;
-use tables::Table;
 
 /// As many bytes of the text are read as the other programs read.
 const TEXT_MOST: usize = 16384;
 
-// Shows the text under the layers over a rule.
-fn layered<R: Rule + Drop>(
-    rt: &HostRuntime,
-    base: R,
-    layers: &[Layer],
-    text: &[u8],
-) -> io::Result<()> {
-    match layers {
-        [Layer::Joint(byte), rest @ ..] => over(
-            rt,
-            Joint {
-                below: base,
-                byte: *byte,
-            },
-            rest,
-            text,
-        ),
-        [Layer::Tail(byte), rest @ ..] => over(
-            rt,
-            Tail {
-                below: base,
-                byte: *byte,
-            },
-            rest,
-            text,
-        ),
-        [] => show(rt, &base, text),
-    }
-}
-
-// The same for the second layer.
-fn over<R: Rule + Drop>(
-    rt: &HostRuntime,
-    base: R,
-    layers: &[Layer],
-    text: &[u8],
-) -> io::Result<()> {
-    match layers {
-        [Layer::Joint(byte), ..] => show(
-            rt,
-            &Joint {
-                below: base,
-                byte: *byte,
-            },
-            text,
-        ),
-        [Layer::Tail(byte), ..] => show(
-            rt,
-            &Tail {
-                below: base,
-                byte: *byte,
-            },
-            text,
-        ),
-        [] => show(rt, &base, text),
-    }
+fn walls(rt: &HostRuntime) -> Result<(), Failure> {
+    let input = read_input(rt, FIRST_LIMIT as u64 + TEXT_LIMIT)?;
+    let (request, rest) = match parse(rt.alloc(), &input) {
+        Ok(read) => read,
+        Err(Unread::NoRule) => return Ok(println!(rt; "no rule")?),
+        Err(Unread::NoMemory) => return Err(AllocError.into()),
+    };
+    let rule = request.rule(rt)?;
+    show(rt, &rule, &rest[..rest.len().min(TEXT_MOST)])
 }
 
 fn main(rt: HostRuntime) -> io::Result<()> {
-    let input = read_input(&rt, FIRST_LIMIT + files::TEXT_LIMIT)?;
-    let Some(request) = parse(rt.alloc(), &input)? else {
-        return println!(rt; "no rule");
-    };
-    let rest = &input[request.text..];
-    let text = if rest.len() > TEXT_MOST {
-        &rest[0..TEXT_MOST]
-    } else {
-        rest
-    };
-    match request.base {
-        Base::Line => layered(&rt, Line, &request.layers, text),
-        Base::Table => match Table::accept(read_table(&rt)?) {
-            Ok(table) => layered(&rt, TableRule { table }, &request.layers, text),
-            Err(rejected) => {
-                let report = rejected.refusal.report();
-                println!(rt; "{report}")
-            }
-        },
-    }
+    tell(&rt, walls(&rt))
 }

@@ -1,54 +1,36 @@
-use refusals::Refusal;
-use rules::Rule;
+ghost use Rattle.std.specs.Iterator.{IsFinite};
+
+use files::Failure;
+use rules::{Page, Rule, check_length};
+use std::alloc::{AllocError, Global};
 use std::io;
 
-// The ends of the runs of a text.
-fn runs<R: Rule>(rt: &HostRuntime, rule: &R, text: &[u8]) -> io::Result<Result<String, Refusal>> {
-    let mut line = String::from_str(rt.alloc(), "runs")?;
-    let mut at = 0;
-    for _ in 0..text.len() {
-        if at >= text.len() {
-            break;
-        }
-        match rule.end(text, at) {
-            Ok(end) => at = end,
-            Err(refusal) => return Ok(Err(refusal)),
-        }
-        let place = format!(in rt.alloc(); " {at}")?;
-        line.push_str(place.as_str())?;
+// A word and then some places, each after a blank.
+fn places_line<I: Iterator<Item = usize>>(
+    heap: Global,
+    word: &str,
+    places: I,
+) -> Result<String, AllocError>
+    requires { I.can_next places × IsFinite (I.remaining places) }
+{
+    let mut line = String::from_str(heap, word)?;
+    for place in places {
+        line.push_str(format!(in heap; " {place}")?.as_str())?;
     }
-    Ok(Ok(line))
-}
-
-// The walls of a text.
-fn walls<R: Rule>(rt: &HostRuntime, rule: &R, text: &[u8]) -> io::Result<Result<String, Refusal>> {
-    let mut line = String::from_str(rt.alloc(), "walls")?;
-    for at in 0..text.len() {
-        match rule.wall(text, at) {
-            Ok(true) => {
-                let place = format!(in rt.alloc(); " {at}")?;
-                line.push_str(place.as_str())?;
-            }
-            Ok(false) => {}
-            Err(refusal) => return Ok(Err(refusal)),
-        }
-    }
-    Ok(Ok(line))
+    Ok(line)
 }
 
 /// Writes the runs and the walls of a text, or a refusal.
-pub fn show<R: Rule>(rt: &HostRuntime, rule: &R, text: &[u8]) -> io::Result<()> {
-    let (ends, places) = match (runs(rt, rule, text)?, walls(rt, rule, text)?) {
-        (Ok(ends), Ok(places)) => (ends, places),
-        (Err(refusal), _) => {
-            let report = refusal.report();
-            return println!(rt; "{report}");
-        }
-        (_, Err(refusal)) => {
-            let report = refusal.report();
-            return println!(rt; "{report}");
-        }
-    };
+pub fn show<R: Rule>(rt: &HostRuntime, rule: &R, text: &[u8]) -> Result<(), Failure> {
+    check_length(text)?;
+    let page = Page { rule, text };
+    let ends = places_line(rt.alloc(), "runs", page.runs().map(|run| run.end))?;
+    let walls = places_line(
+        rt.alloc(),
+        "walls",
+        (0..text.len()).filter(|at| page.is_wall(*at)),
+    )?;
     rt.println(ends)?;
-    rt.println(places)
+    rt.println(walls)?;
+    Ok(())
 }
