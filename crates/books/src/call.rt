@@ -42,6 +42,7 @@ pub struct Change {
     pub dropped: usize,
 }
 
+// a result in each kind, and not the kinds in a result: a refusal, too, says which call it answers
 /// What a call answers, or why it is refused.
 #[derive(Clone, Copy, PartialEq, Eq, Debug)]
 pub enum Answer {

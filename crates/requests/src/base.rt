@@ -8,6 +8,7 @@ use breaks::TableRule;
 use refusals::Refusal;
 use rules::{Line, Rule};
 
+// an enum and no `dyn Rule`: a function that makes a boxed rule may not hand it out
 /// A rule that stands on no other, chosen as the program runs.
 #[derive(Drop)]
 pub enum Base {

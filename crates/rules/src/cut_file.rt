@@ -24,6 +24,7 @@ fn write_records<R: Rule>(page: &Page<R>, buffer: &mut [u8]) -> usize
 {
     let mut filled = 0;
     for run in page.runs() {
+        // `as`: there is no From from usize to u16, and that nothing is lost is proved
         write_record(buffer, filled, run.start as u16, run.end as u16);
         filled += 4;
     }
@@ -47,6 +48,7 @@ fn check_room<R: Rule>(page: &Page<R>, room: usize) -> Result<(), Refusal>
     Ok(())
 }
 
+// the buffer is the caller's: no memory is taken here
 /// Writes the cut file of a text into a buffer, and answers how many bytes it has. A refusal leaves the buffer as it was.
 pub fn write_cut_file<R: Rule>(rule: &R, text: &[u8], buffer: &mut [u8]) -> Result<usize, Refusal>
     ensures answer { result ≡ written (R.run rule.now) text.now (length buffer.old) }

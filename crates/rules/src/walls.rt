@@ -7,6 +7,7 @@ use crate::page::Page;
 use crate::rule::Rule;
 use refusals::Refusal;
 
+// an option in a result: that no wall stands is an answer, and no refusal
 /// How many runs there are before a wall, counted in the text before it alone; None where no wall stands. No run
 /// crosses a wall.
 #[tactic(auto, using(crate::proofs::WallLaws::parted_number, crate::proofs::WallLaws::parted_uncrossed, crate::proofs::Lawful::wall_joined))]

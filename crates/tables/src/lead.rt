@@ -49,6 +49,7 @@ impl<'a> Lead<'a> {
         ensures { result ≡ row_start self.now.parts.bytes.now self.now.k }
     {
         let at = self.auxiliary_place();
+        // here and below `as`: there is no From between usize and i32, and that nothing is lost is proved
         at as i32 + i32::from(self.parts.word(at + self.k))
     }
 

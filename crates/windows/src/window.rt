@@ -76,6 +76,7 @@ impl Edit {
         Window {
             from,
             to,
+            // `as`: there is no From from usize to i32, and that nothing is lost is proved
             difference: new as i32 - old as i32,
         }
     }

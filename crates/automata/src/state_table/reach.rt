@@ -50,6 +50,7 @@ impl StateTable<'_> {
         ensures complete { (k : ℕ) → From quiet (code_of self.now) self.now.classes start.bits k → Has result.bits k }
     {
         let mut set = start;
+        // no iterator: each pass begins with what the last one found, until it finds no more
         loop {
             let more = self.pass(quiet, set);
             if more == set {

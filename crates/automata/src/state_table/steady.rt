@@ -60,6 +60,7 @@ impl SteadyCheck<'_> {
         ensures only { (k : ℕ) → Has result.bits k → Has set.bits k ⊎ SpoilsToIn self.now to k }
     {
         let mut all = set;
+        // states are gathered one by one, here and below: a `fold` over the classes would be no plainer
         for class in 0..self.table.classes {
             if self.spoils(to, class) {
                 all = all.with(self.table.code(to, class).next());

@@ -15,6 +15,7 @@ impl StateTable<'_> {
         ensures complete { (k : ℕ) → Follows (code_of self.now) self.now.states set.bits class k → Has result.bits k }
     {
         let mut all = StateSet::empty();
+        // states are gathered one by one: a `fold` over them would be no plainer
         for state in 1..self.states {
             if set.has(state) {
                 let code = self.code(state, class);

@@ -15,6 +15,7 @@ impl<R: Rule> Book<R> {
         ensures rule { self.new.rule ≡ self.old.rule }
         ensures long { length text.new ≡ length text.old }
     {
+        // a list of calls is data that the caller hands in, so that no closure can stand for one
         match call {
             Call::Look(place) => Answer::Looked(self.look(text, place)),
             Call::Fetch(number) => Answer::Fetched(self.fetch(text, number)),

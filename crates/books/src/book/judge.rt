@@ -17,14 +17,8 @@ fn moved_number(number: usize, by: i32, place: usize) -> usize
     ensures value { result ≡ held place (pos number +ℤ by) }
     ensures held { result ≤ place }
 {
-    let sum = number as i64 + by as i64;
-    if sum < 0 {
-        0
-    } else if sum > place as i64 {
-        place
-    } else {
-        sum as usize
-    }
+    // `as`: there is no From between usize and i64, and that nothing is lost is proved
+    (number as i64 + i64::from(by)).clamp(0, place as i64) as usize
 }
 
 // A pin moved in number, where it lies at or after the window's end.

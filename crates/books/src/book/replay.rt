@@ -18,8 +18,8 @@ impl<R: Rule> Book<R> {
         ensures long { length other.new ≡ length other.old }
     {
         if let Some(n) = step.handed {
-            if n as usize != text.len() {
-                return self.apply(&mut other[..n as usize], step.call);
+            if usize::from(n) != text.len() {
+                return self.apply(&mut other[..usize::from(n)], step.call);
             }
         }
         self.apply(text, step.call)
@@ -35,6 +35,7 @@ impl<R: Rule> Book<R> {
         ensures told { Faithful (R.Rule.run self.old.rule) (R.Rule.parts self.old.rule) self.old text.old → MatchResult result (λ v. CarriedOut (R.Rule.run self.old.rule) (R.Rule.parts self.old.rule) (plain_of self.old text.old) steps.now v.items self.new text.new) (λ _. text.new ≡ text.old) }
     {
         let mut answers = Vec::with_capacity(heap, steps.len())?;
+        // all that a step can be handed in place of the text, so that no step takes memory
         let mut other = [0; 65535];
         for step in steps {
             answers.push_reserved(self.take_step(text, &mut other, *step));

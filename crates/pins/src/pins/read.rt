@@ -56,6 +56,7 @@ impl Pins {
         }
     }
 
+    // the next two stay two: one function over a closure would say by the closure what they say in words
     /// The nearest pin that is not above a place.
     pub fn nearest(&self, place: usize) -> Option<Pin>
         ensures value { result ≡ last_by (up_to place) (kept self.now) }

@@ -25,6 +25,7 @@ impl<'a> Parts<'a> {
             return Err(Refusal::TableFlags);
         }
         let head = Head::new(bytes);
+        // in the order of the refusals; a loop over the three fields and what they need is no plainer
         if !head.offset_fits(4, 256) {
             return Err(Refusal::OffsetOutside(4));
         }

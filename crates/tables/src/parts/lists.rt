@@ -69,6 +69,7 @@ impl Parts<'_> {
         requires { (3 ≤ states self.now.bytes.now direction) × ((states self.now.bytes.now direction ≤ 64) × (state_table self.now.bytes.now direction + 2 * states self.now.bytes.now direction ≤ length self.now.bytes.now)) }
         ensures { Checked (later_checks self.now.bytes.now direction) result }
     {
+        // no iterator over words: k tells where the word stands, here and in the refusal
         for k in 3..self.state_count(direction) {
             if !self.later_word_fits(direction, k) {
                 return Err(self.wrong_at(direction, k));
