@@ -1,22 +1,23 @@
 //! Times the calls over the page in the file `text` by the table in the file `table`, and tells nanoseconds for a call.
 #![tactic(auto)]
 
+mod steps;
 mod timing;
 
 use books::Book;
 use breaks::TableRule;
 use files::{read_table, read_text};
 use requests::number;
+use rules::write_cut_file;
 use std::{env, io};
+use steps::{look_once, put_twice, try_once};
 use tables::Table;
-use timing::{time_cut, time_look, time_put, time_try};
+use timing::time;
 
 // A rule by the table in the file `table`.
 fn read_rule(rt: &HostRuntime) -> io::Result<Option<TableRule>> {
-    match Table::accept(read_table(rt)?) {
-        Ok(table) => Ok(Some(TableRule { table })),
-        Err(_) => Ok(None),
-    }
+    let accepted = Table::accept(read_table(rt)?);
+    Ok(accepted.ok().map(|table| TableRule { table }))
 }
 
 // Times everything, and writes a line for each call.
@@ -26,35 +27,34 @@ fn bench(rt: &HostRuntime, rounds: usize) -> io::Result<()> {
     };
     let mut text = read_text(rt)?;
     let mut buffer = [0; 65536];
-    let cut = time_cut(rt, &rule, &text, &mut buffer, rounds)?;
+    let cut = time(rt, rounds, |_| {
+        let _ = write_cut_file(&rule, &text, &mut buffer);
+    })?;
     println!(rt; "cut {cut}")?;
     let mut book = Book::new(rule);
     if book.open(&text).is_err() {
         return println!(rt; "bench: the text is refused");
     }
-    let put = time_put(rt, &mut book, &mut text, rounds)?;
+    let put = time(rt, rounds, |round| put_twice(&mut book, &mut text, round))? / 2;
     println!(rt; "put {put}")?;
-    let tried = time_try(rt, &mut book, &mut text, rounds)?;
+    let tried = time(rt, rounds, |round| try_once(&mut book, &mut text, round))?;
     println!(rt; "try {tried}")?;
-    let look = time_look(rt, &book, &text, rounds)?;
+    let look = time(rt, rounds, |round| look_once(&book, &text, round))?;
     println!(rt; "look {look}")?;
     for k in 0..64 {
         let _ = book.pin(&text, (text.len() / 64).wrapping_mul(k));
     }
-    let pinned = time_look(rt, &book, &text, rounds)?;
+    let pinned = time(rt, rounds, |round| look_once(&book, &text, round))?;
     println!(rt; "look-pinned {pinned}")?;
-    let full = time_put(rt, &mut book, &mut text, rounds)?;
+    let full = time(rt, rounds, |round| put_twice(&mut book, &mut text, round))? / 2;
     println!(rt; "put-pinned {full}")
 }
 
 fn main(rt: HostRuntime) -> io::Result<()> {
-    let mut words = env::args(&rt)?;
-    // the program's own name
-    let _ = words.next();
-    if let Some(word) = words.next() {
-        if let Some(rounds) = number(word.as_str()) {
-            return bench(&rt, rounds);
-        }
-    }
-    println!(rt; "bench ROUNDS: times the calls over the files `table` and `text`")
+    // the first word is the program's own name
+    let word = env::args(&rt)?.nth(1);
+    let Some(rounds) = word.and_then(|word| number(word.as_str())) else {
+        return println!(rt; "bench ROUNDS: times the calls over the files `table` and `text`");
+    };
+    bench(&rt, rounds)
 }

@@ -1,6 +1,6 @@
-use crate::tools::{Told, counted, edit, read, rule_of, school_rule};
+use crate::tools::{Told, edit, read, rule_of, school_rule, told};
 use crate::verdicts::largest;
-use breaks::{character, cut_page};
+use breaks::cut_page;
 use refusals::{Direction, Refusal};
 use rules::{Line, Rule, write_cut_file};
 use school::school_table;
@@ -9,37 +9,37 @@ use std::process::Abort;
 use std::test::Fail;
 
 // Texts, places, and where the run from there ends by the school table.
-const SCHOOL_ENDS: [(&[u8], usize, Told); 15] = [
-    (b"re-cut it", 0, Told::Counted(6)),
-    (b"re-cut it", 6, Told::Counted(7)),
-    (b"re-cut it", 7, Told::Counted(9)),
-    (b"re-cut it", 1, Told::Counted(6)),
-    (b"re-cut it", 2, Told::Counted(3)),
-    (b"re-cut it", 8, Told::Counted(9)),
-    (b"re-cut it", 9, Told::Refused(10, 4, 9)),
-    (b"re-cut it", 10, Told::Refused(10, 4, 10)),
-    (b"cut- it", 0, Told::Counted(3)),
-    (b"cut- it", 3, Told::Counted(4)),
-    (b"cut- it", 4, Told::Counted(5)),
-    (b"cut- it", 5, Told::Counted(7)),
-    (b"a-", 0, Told::Counted(2)),
-    (b"   .", 0, Told::Counted(3)),
-    (b"", 0, Told::Refused(10, 4, 0)),
+const SCHOOL_ENDS: [(&[u8], usize, Told<usize>); 15] = [
+    (b"re-cut it", 0, Ok(6)),
+    (b"re-cut it", 6, Ok(7)),
+    (b"re-cut it", 7, Ok(9)),
+    (b"re-cut it", 1, Ok(6)),
+    (b"re-cut it", 2, Ok(3)),
+    (b"re-cut it", 8, Ok(9)),
+    (b"re-cut it", 9, Err((10, 4, 9))),
+    (b"re-cut it", 10, Err((10, 4, 10))),
+    (b"cut- it", 0, Ok(3)),
+    (b"cut- it", 3, Ok(4)),
+    (b"cut- it", 4, Ok(5)),
+    (b"cut- it", 5, Ok(7)),
+    (b"a-", 0, Ok(2)),
+    (b"   .", 0, Ok(3)),
+    (b"", 0, Err((10, 4, 0))),
 ];
 
 // The same by the line rule.
-const LINE_ENDS: [(&[u8], usize, Told); 11] = [
-    (b"ab\rc\r\rd\ne", 0, Told::Counted(3)),
-    (b"ab\rc\r\rd\ne", 2, Told::Counted(3)),
-    (b"ab\rc\r\rd\ne", 3, Told::Counted(5)),
-    (b"ab\rc\r\rd\ne", 5, Told::Counted(6)),
-    (b"ab\rc\r\rd\ne", 6, Told::Counted(9)),
-    (b"ab\rc\r\rd\ne", 8, Told::Counted(9)),
-    (b"ab\rc\r\rd\ne", 9, Told::Refused(10, 4, 9)),
-    (b"\r\r", 0, Told::Counted(1)),
-    (b"\r\r", 1, Told::Counted(2)),
-    (b"\n", 0, Told::Counted(1)),
-    (b"", 0, Told::Refused(10, 4, 0)),
+const LINE_ENDS: [(&[u8], usize, Told<usize>); 11] = [
+    (b"ab\rc\r\rd\ne", 0, Ok(3)),
+    (b"ab\rc\r\rd\ne", 2, Ok(3)),
+    (b"ab\rc\r\rd\ne", 3, Ok(5)),
+    (b"ab\rc\r\rd\ne", 5, Ok(6)),
+    (b"ab\rc\r\rd\ne", 6, Ok(9)),
+    (b"ab\rc\r\rd\ne", 8, Ok(9)),
+    (b"ab\rc\r\rd\ne", 9, Err((10, 4, 9))),
+    (b"\r\r", 0, Ok(1)),
+    (b"\r\r", 1, Ok(2)),
+    (b"\n", 0, Ok(1)),
+    (b"", 0, Err((10, 4, 0))),
 ];
 
 // Texts and their cut files by the school table.
@@ -92,20 +92,17 @@ const LINES: [(Refusal, &str); 13] = [
 ];
 
 // Asks a rule where runs end.
-fn ends<R: Rule>(rt: &impl Abort, rule: &R, cases: &[(&[u8], usize, Told)]) {
+fn ends<R: Rule>(rt: &impl Abort, rule: &R, cases: &[(&[u8], usize, Told<usize>)]) {
     for (text, place, expected) in cases {
-        assert_eq!(rt; counted(rule.end(text, *place)), *expected);
+        assert_eq!(rt; told(rule.end(text, *place)), *expected);
     }
 }
 
 // Whether a buffer that was full of bytes 170 now has these bytes in front of them.
 fn holds(buffer: &[u8], file: &[u8]) -> bool {
-    for i in 0..buffer.len() {
-        if buffer[i] != file.get(i).copied().unwrap_or(170) {
-            return false;
-        }
-    }
-    file.len() <= buffer.len()
+    buffer
+        .strip_prefix(file)
+        .is_some_and(|rest| rest.iter().all(|byte| *byte == 170))
 }
 
 // Writes a cut file into a buffer of so many bytes, of which it then has these in front.
@@ -116,9 +113,9 @@ fn writes<R: Rule>(
     text: &[u8],
     room: usize,
     file: &[u8],
-) -> Result<Told, Fail> {
+) -> Result<Told<usize>, Fail> {
     let mut buffer = vec![in heap; 170; room]?;
-    let answer = counted(write_cut_file(rule, text, &mut buffer));
+    let answer = told(write_cut_file(rule, text, &mut buffer));
     assert!(rt; holds(&buffer, file));
     Ok(answer)
 }
@@ -133,56 +130,32 @@ fn files<R: Rule>(
     for (text, file) in cases {
         let size = file.len();
         assert!(rt; 0 < size && size < 100);
-        assert_eq!(rt;
-            writes(rt, heap, rule, text, 100, file)?,
-            Told::Counted(size)
-        );
-        assert_eq!(rt;
-            writes(rt, heap, rule, text, size, file)?,
-            Told::Counted(size)
-        );
+        assert_eq!(rt; writes(rt, heap, rule, text, 100, file)?, Ok(size));
+        assert_eq!(rt; writes(rt, heap, rule, text, size, file)?, Ok(size));
         assert_eq!(rt;
             writes(rt, heap, rule, text, size - 1, b"")?,
-            Told::Refused(13, 4, size)
+            Err((13, 4, size))
         );
-        assert_eq!(rt;
-            writes(rt, heap, rule, text, 0, b"")?,
-            Told::Refused(13, 4, size)
-        );
+        assert_eq!(rt; writes(rt, heap, rule, text, 0, b"")?, Err((13, 4, size)));
     }
-    assert_eq!(rt; writes(rt, heap, rule, b"", 0, b"")?, Told::Counted(0));
-    assert_eq!(rt; writes(rt, heap, rule, b"", 9, b"")?, Told::Counted(0));
+    assert_eq!(rt; writes(rt, heap, rule, b"", 0, b"")?, Ok(0));
+    assert_eq!(rt; writes(rt, heap, rule, b"", 9, b"")?, Ok(0));
     Ok(())
 }
 
 // The longest text of one letter, and one that is longer by a byte.
 fn limits<R: Rule>(rt: &impl Abort, heap: Global, rule: &R) -> Result<(), Fail> {
     let text = vec![in heap; b'a'; 16383]?;
-    assert_eq!(rt; counted(rule.end(&text, 0)), Told::Counted(16383));
-    assert_eq!(rt; counted(rule.end(&text, 16382)), Told::Counted(16383));
-    assert_eq!(rt;
-        counted(rule.end(&text, 16383)),
-        Told::Refused(10, 4, 16383)
-    );
-    assert_eq!(rt;
-        writes(rt, heap, rule, &text, 9, &[0, 0, 63, 255])?,
-        Told::Counted(4)
-    );
-    assert_eq!(rt;
-        writes(rt, heap, rule, &text, 3, b"")?,
-        Told::Refused(13, 4, 4)
-    );
+    assert_eq!(rt; told(rule.end(&text, 0)), Ok(16383));
+    assert_eq!(rt; told(rule.end(&text, 16382)), Ok(16383));
+    assert_eq!(rt; told(rule.end(&text, 16383)), Err((10, 4, 16383)));
+    assert_eq!(rt; writes(rt, heap, rule, &text, 9, &[0, 0, 63, 255])?, Ok(4));
+    assert_eq!(rt; writes(rt, heap, rule, &text, 3, b"")?, Err((13, 4, 4)));
     let long = vec![in heap; b'a'; 16384]?;
-    assert_eq!(rt; counted(rule.end(&long, 0)), Told::Refused(9, 4, 16384));
-    assert_eq!(rt; counted(rule.end(&long, 16384)), Told::Refused(9, 4, 16384));
-    assert_eq!(rt;
-        writes(rt, heap, rule, &long, 9, b"")?,
-        Told::Refused(9, 4, 16384)
-    );
-    assert_eq!(rt;
-        writes(rt, heap, rule, &long, 0, b"")?,
-        Told::Refused(9, 4, 16384)
-    );
+    assert_eq!(rt; told(rule.end(&long, 0)), Err((9, 4, 16384)));
+    assert_eq!(rt; told(rule.end(&long, 16384)), Err((9, 4, 16384)));
+    assert_eq!(rt; writes(rt, heap, rule, &long, 9, b"")?, Err((9, 4, 16384)));
+    assert_eq!(rt; writes(rt, heap, rule, &long, 0, b"")?, Err((9, 4, 16384)));
     Ok(())
 }
 
@@ -204,41 +177,29 @@ fn by_line(rt: HostRuntime) -> Result<(), Fail> {
 #[test]
 fn characters(rt: HostRuntime) -> Result<(), Fail> {
     let table = school_rule(rt.alloc(), &[])?.table;
-    assert_eq!(rt; read(character(&table, b"a-", 1)), Told::Read(1, 2));
-    assert_eq!(rt; read(character(&table, b"a-", 2)), Told::Refused(10, 4, 2));
-    assert_eq!(rt; read(character(&table, b"", 0)), Told::Refused(10, 4, 0));
+    assert_eq!(rt; read(&table, b"a-", 1), Ok((1, 2)));
+    assert_eq!(rt; read(&table, b"a-", 2), Err((10, 4, 2)));
+    assert_eq!(rt; read(&table, b"", 0), Err((10, 4, 0)));
     let text = vec![in rt.alloc(); b'a'; 16383]?;
-    assert_eq!(rt; read(character(&table, &text, 16382)), Told::Read(1, 1));
-    assert_eq!(rt;
-        read(character(&table, &text, 16383)),
-        Told::Refused(10, 4, 16383)
-    );
+    assert_eq!(rt; read(&table, &text, 16382), Ok((1, 1)));
+    assert_eq!(rt; read(&table, &text, 16383), Err((10, 4, 16383)));
     let long = vec![in rt.alloc(); b'a'; 16384]?;
-    assert_eq!(rt;
-        read(character(&table, &long, 0)),
-        Told::Refused(9, 4, 16384)
-    );
-    assert_eq!(rt;
-        read(character(&table, &long, 16384)),
-        Told::Refused(9, 4, 16384)
-    );
+    assert_eq!(rt; read(&table, &long, 0), Err((9, 4, 16384)));
+    assert_eq!(rt; read(&table, &long, 16384), Err((9, 4, 16384)));
     Ok(())
 }
 
 #[test]
 fn one_by_one(rt: HostRuntime) -> Result<(), Fail> {
     // the most runs that a text can have
-    let rule = rule_of(rt.alloc(), &largest(&rt, rt.alloc())?)?;
+    let rule = rule_of(rt.alloc(), &largest(rt.alloc())?)?;
     let text = vec![in rt.alloc(); 255; 16383]?;
     let mut buffer = vec![in rt.alloc(); 170; 65533]?;
-    assert_eq!(rt;
-        counted(write_cut_file(&rule, &text, &mut buffer)),
-        Told::Counted(65532)
-    );
+    assert_eq!(rt; told(write_cut_file(&rule, &text, &mut buffer)), Ok(65532));
     assert!(rt; buffer.ends_with(&[63, 253, 63, 254, 63, 254, 63, 255, 170]));
     assert_eq!(rt;
         writes(&rt, rt.alloc(), &rule, &text, 65531, b"")?,
-        Told::Refused(13, 4, 65532)
+        Err((13, 4, 65532))
     );
     Ok(())
 }
@@ -253,12 +214,12 @@ fn pages(rt: HostRuntime) -> Result<(), Fail> {
     edit(&mut faulty, &[(310, 6)])?;
     // a faulty table is told first
     let answer = cut_page(faulty.to_vec(rt.alloc())?, &long, &mut buffer);
-    assert_eq!(rt; counted(answer), Told::Refused(7, 3, 312));
+    assert_eq!(rt; told(answer), Err((7, 3, 312)));
     let answer = cut_page(school.to_vec(rt.alloc())?, &long, &mut buffer);
-    assert_eq!(rt; counted(answer), Told::Refused(9, 4, 16384));
+    assert_eq!(rt; told(answer), Err((9, 4, 16384)));
     assert!(rt; holds(&buffer, b""));
     let answer = cut_page(school.to_vec(rt.alloc())?, b"re-cut it", &mut buffer);
-    assert_eq!(rt; counted(answer), Told::Counted(12));
+    assert_eq!(rt; told(answer), Ok(12));
     assert!(rt; holds(&buffer, &file));
     Ok(())
 }

@@ -1,22 +1,22 @@
-use crate::tools::{Told, refused, school_rule};
+use crate::tools::{Told, school_rule, told};
 use breaks::TableRule;
 use finds::find;
 use std::test::Fail;
 
-// Edits of the school table, and what the steady check tells of it: nothing, or a refusal's place.
-type Check = (&'static [(usize, u8)], Option<usize>);
+// Edits of the school table, and what the steady check tells of it.
+type Check = (&'static [(usize, u8)], Told<()>);
 
 const CHECKS: [Check; 6] = [
-    (&[], None),
+    (&[], Ok(())),
     // an exit at a hyphen before a letter
-    (&[(286, 0)], Some(286)),
+    (&[(286, 0)], Err((8, 2, 286))),
     // marks set by the exiting code: on another sign, and on a blank
-    (&[(280, 128)], Some(280)),
-    (&[(287, 128)], Some(287)),
+    (&[(280, 128)], Err((8, 2, 280))),
+    (&[(287, 128)], Err((8, 2, 287))),
     // an exit without a mark
-    (&[(283, 0)], None),
+    (&[(283, 0)], Ok(())),
     // an exit at any sign before any other
-    (&[(284, 0)], None),
+    (&[(284, 0)], Ok(())),
 ];
 
 // Edits of the school table, a text, and the start and the end of the run found at each of its places.
@@ -79,24 +79,16 @@ const SEARCHES: [Search; 9] = [
     (&[], b"", &[]),
 ];
 
-fn told(rule: &TableRule, text: &[u8], place: usize) -> Told {
-    match find(rule, text, place) {
-        Ok(found) => Told::Found(found.start, found.end),
-        Err(refusal) => refused(refusal),
-    }
+// The start and the end of the run over a place.
+fn run_over(rule: &TableRule, text: &[u8], place: usize) -> Told<(usize, usize)> {
+    told(find(rule, text, place)).map(|span| (span.start, span.end))
 }
 
 #[test]
 fn steady(rt: HostRuntime) -> Result<(), Fail> {
-    for (edits, place) in &CHECKS {
+    for (edits, expected) in &CHECKS {
         let rule = school_rule(rt.alloc(), edits)?;
-        match (rule.table.check_steady(), *place) {
-            (Ok(()), None) => {}
-            (Err(refusal), Some(place)) => {
-                assert_eq!(rt; refused(refusal), Told::Refused(8, 2, place));
-            }
-            _ => return Err(Fail::new("another verdict")),
-        }
+        assert_eq!(rt; told(rule.table.check_steady()), *expected);
     }
     Ok(())
 }
@@ -106,13 +98,10 @@ fn found(rt: HostRuntime) -> Result<(), Fail> {
     for (edits, text, runs) in &SEARCHES {
         let rule = school_rule(rt.alloc(), edits)?;
         assert_eq!(rt; runs.len(), text.len());
-        for (place, (start, end)) in runs.iter().enumerate() {
-            assert_eq!(rt; told(&rule, text, place), Told::Found(*start, *end));
+        for (place, run) in runs.iter().enumerate() {
+            assert_eq!(rt; run_over(&rule, text, place), Ok(*run));
         }
-        assert_eq!(rt;
-            told(&rule, text, text.len()),
-            Told::Refused(10, 4, text.len())
-        );
+        assert_eq!(rt; run_over(&rule, text, text.len()), Err((10, 4, text.len())));
     }
     Ok(())
 }
@@ -121,11 +110,11 @@ fn found(rt: HostRuntime) -> Result<(), Fail> {
 fn far_places(rt: HostRuntime) -> Result<(), Fail> {
     let rule = school_rule(rt.alloc(), &[])?;
     let text = vec![in rt.alloc(); b'a'; 16384]?;
-    assert_eq!(rt; told(&rule, &text[0..16383], 16382), Told::Found(0, 16383));
+    assert_eq!(rt; run_over(&rule, &text[0..16383], 16382), Ok((0, 16383)));
     assert_eq!(rt;
-        told(&rule, &text[0..16383], 16383),
-        Told::Refused(10, 4, 16383)
+        run_over(&rule, &text[0..16383], 16383),
+        Err((10, 4, 16383))
     );
-    assert_eq!(rt; told(&rule, &text, 16384), Told::Refused(9, 4, 16384));
+    assert_eq!(rt; run_over(&rule, &text, 16384), Err((9, 4, 16384)));
     Ok(())
 }

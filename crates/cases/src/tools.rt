@@ -1,4 +1,4 @@
-use breaks::{Character, TableRule};
+use breaks::{TableRule, character};
 use refusals::Refusal;
 use school::school_table;
 use std::alloc::Global;
@@ -6,82 +6,53 @@ use std::process::Abort;
 use std::test::Fail;
 use tables::{Summary, Table, examine};
 
-// What a call tells, in numbers.
-#[derive(Clone, Copy, PartialEq, Eq, Debug)]
-pub enum Told {
-    // number, part and place
-    Refused(u8, u8, usize),
-    // states, classes and sure pairs
-    Accepted(usize, usize, usize),
-    // size and class
-    Read(usize, usize),
-    // the end of a run, or the size of a cut file
-    Counted(usize),
-    // the start and the end of a run
-    Found(usize, usize),
+// What a call tells: its answer, or the number, part and place of its refusal.
+pub type Told<T> = Result<T, (u8, u8, usize)>;
+
+// States, classes and sure pairs.
+pub type Counts = (usize, usize, usize);
+
+pub fn told<T>(answer: Result<T, Refusal>) -> Told<T> {
+    answer.map_err(|refusal| {
+        let report = refusal.report();
+        (report.number, report.part, report.place)
+    })
 }
 
-pub fn refused(refusal: Refusal) -> Told {
-    let report = refusal.report();
-    Told::Refused(report.number, report.part, report.place)
+fn counts(summary: Summary) -> Counts {
+    (summary.states, summary.classes, summary.sure)
 }
 
-pub fn accepted(verdict: Result<Summary, Refusal>) -> Told {
-    match verdict {
-        Ok(summary) => Told::Accepted(summary.states, summary.classes, summary.sure),
-        Err(refusal) => refused(refusal),
-    }
-}
-
-pub fn read(answer: Result<Character, Refusal>) -> Told {
-    match answer {
-        Ok(character) => Told::Read(character.size, character.class),
-        Err(refusal) => refused(refusal),
-    }
-}
-
-pub fn counted(answer: Result<usize, Refusal>) -> Told {
-    match answer {
-        Ok(count) => Told::Counted(count),
-        Err(refusal) => refused(refusal),
-    }
+// The size and the class of the character at a place.
+pub fn read(table: &Table, text: &[u8], place: usize) -> Told<(usize, usize)> {
+    told(character(table, text, place)).map(|character| (character.size, character.class))
 }
 
 // Puts each value of a list at its place.
 pub fn edit(bytes: &mut [u8], edits: &[(usize, u8)]) -> Result<(), Fail> {
     for (place, value) in edits {
-        match bytes.get_mut(*place) {
-            Some(byte) => *byte = *value,
-            None => return Err(Fail::new("no such place")),
-        }
+        *bytes.get_mut(*place).ok_or("no such place")? = *value;
     }
     Ok(())
 }
 
-// What accepting tells of the bytes; a refusal hands them back.
-pub fn accepting(rt: &impl Abort, heap: Global, bytes: &[u8]) -> Result<Told, Fail> {
+// What is told of the bytes, alike by both calls; where they are not accepted, they are handed back.
+pub fn verdict(rt: &impl Abort, heap: Global, bytes: &[u8]) -> Result<Told<Counts>, Fail> {
+    let answer = told(examine(bytes)).map(counts);
     match Table::accept(bytes.to_vec(heap)?) {
-        Ok(table) => Ok(accepted(Ok(table.summary()))),
+        Ok(table) => assert_eq!(rt; Ok(counts(table.summary())), answer),
         Err(rejected) => {
             assert_eq!(rt; rejected.bytes.as_slice(), bytes);
-            Ok(refused(rejected.refusal))
+            assert_eq!(rt; told(Err(rejected.refusal)), answer);
         }
     }
-}
-
-// What is told of the bytes, alike by both calls.
-pub fn verdict(rt: &impl Abort, heap: Global, bytes: &[u8]) -> Result<Told, Fail> {
-    let answer = accepted(examine(bytes));
-    assert_eq!(rt; accepting(rt, heap, bytes)?, answer);
     Ok(answer)
 }
 
 // The rule of a table that has to be accepted.
 pub fn rule_of(heap: Global, bytes: &[u8]) -> Result<TableRule, Fail> {
-    match Table::accept(bytes.to_vec(heap)?) {
-        Ok(table) => Ok(TableRule { table }),
-        Err(_) => Err(Fail::new("the table is refused")),
-    }
+    let table = Table::accept(bytes.to_vec(heap)?).map_err(Refusal::from)?;
+    Ok(TableRule { table })
 }
 
 // The rule of the school table after some edits.

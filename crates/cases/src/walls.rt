@@ -1,6 +1,5 @@
-use crate::tools::{Told, refused, school_rule};
-use layers::{Joint, Tail};
-use refusals::Refusal;
+use crate::tools::{school_rule, told};
+use layers::{Joint, Layered, Tail};
 use rules::{Line, Rule, runs_before, three_parts};
 use std::process::Abort;
 use std::test::Fail;
@@ -41,14 +40,6 @@ const LINES: [Shape; 3] = [
     (b"\n\n", &[2], &[0]),
 ];
 
-// The number at a place of a list, or what is no place of any text.
-fn listed(numbers: &[usize], i: usize) -> usize {
-    match numbers.get(i) {
-        Some(n) => *n,
-        None => usize::MAX,
-    }
-}
-
 // Each place is the end of the run before it or not, and a wall or not, as the shapes say.
 fn shaped<R: Rule>(rt: &impl Abort, rule: &R, shapes: &[Shape]) -> Result<(), Fail> {
     for (text, ends, walls) in shapes {
@@ -58,24 +49,15 @@ fn shaped<R: Rule>(rt: &impl Abort, rule: &R, shapes: &[Shape]) -> Result<(), Fa
             at = *end;
         }
         assert_eq!(rt; at, text.len());
-        let mut seen = 0usize;
+        let mut left = walls.iter();
         for place in 0..text.len() {
-            let wall = rule.wall(text, place)?;
-            assert_eq!(rt; wall, listed(walls, seen) == place);
-            if wall {
-                seen = seen.saturating_add(1);
+            if rule.wall(text, place)? {
+                assert_eq!(rt; left.next().copied(), Some(place));
             }
         }
-        assert_eq!(rt; seen, walls.len());
+        assert_eq!(rt; left.next(), None);
     }
     Ok(())
-}
-
-fn told(answer: Result<bool, Refusal>) -> Told {
-    match answer {
-        Ok(yes) => Told::Counted(yes as usize),
-        Err(refusal) => refused(refusal),
-    }
 }
 
 #[test]
@@ -86,49 +68,34 @@ fn tables(rt: HostRuntime) -> Result<(), Fail> {
 
 #[test]
 fn layers(rt: HostRuntime) -> Result<(), Fail> {
-    let tail = Tail {
+    let below = Layered {
         below: school_rule(rt.alloc(), &[])?,
-        byte: 32,
+        seam: Tail(32),
     };
-    shaped(
-        &rt,
-        &Joint {
-            below: tail,
-            byte: 45,
-        },
-        &LAYERED,
-    )?;
-    let joint = Joint {
+    let seam = Joint(45);
+    shaped(&rt, &Layered { below, seam }, &LAYERED)?;
+    let below = Layered {
         below: school_rule(rt.alloc(), &[])?,
-        byte: 45,
+        seam: Joint(45),
     };
-    shaped(
-        &rt,
-        &Tail {
-            below: joint,
-            byte: 32,
-        },
-        &LAYERED,
-    )
+    let seam = Tail(32);
+    shaped(&rt, &Layered { below, seam }, &LAYERED)
 }
 
 #[test]
 fn lines(rt: HostRuntime) -> Result<(), Fail> {
-    shaped(&rt, &Line, &LINES)?;
+    let below = Line;
+    shaped(&rt, &below, &LINES)?;
+    let seam = Joint(13);
     shaped(
         &rt,
-        &Joint {
-            below: Line,
-            byte: 13,
-        },
+        &Layered { below, seam },
         &[(b"ab\rc\r\rd", &[7], &[0])],
     )?;
+    let seam = Tail(99);
     shaped(
         &rt,
-        &Tail {
-            below: Line,
-            byte: 99,
-        },
+        &Layered { below, seam },
         &[(b"ab\rc\r\rd", &[5, 6, 7], &[0, 5, 6])],
     )
 }
@@ -137,32 +104,26 @@ fn lines(rt: HostRuntime) -> Result<(), Fail> {
 fn long_texts(rt: HostRuntime) -> Result<(), Fail> {
     let rule = school_rule(rt.alloc(), &[])?;
     let text = [97; 16384];
-    assert_eq!(rt; told(rule.wall(&text[0..16383], 0)), Told::Counted(1));
-    assert_eq!(rt; told(rule.wall(&text[0..16383], 16382)), Told::Counted(0));
+    assert_eq!(rt; told(rule.wall(&text[0..16383], 0)), Ok(true));
+    assert_eq!(rt; told(rule.wall(&text[0..16383], 16382)), Ok(false));
     assert_eq!(rt;
         told(rule.wall(&text[0..16383], 16383)),
-        Told::Refused(10, 4, 16383)
+        Err((10, 4, 16383))
     );
-    assert_eq!(rt; told(rule.wall(&text, 0)), Told::Refused(9, 4, 16384));
-    assert_eq!(rt; told(rule.wall(&text, 20000)), Told::Refused(9, 4, 16384));
-    assert_eq!(rt; told(Line.wall(&text, 0)), Told::Refused(9, 4, 16384));
-    assert_eq!(rt; told(Line.wall(b"", 0)), Told::Refused(10, 4, 0));
-    assert_eq!(rt;
-        told(Joint {
-            below: Line,
-            byte: 1,
-        }
-        .wall(&text, 0)),
-        Told::Refused(9, 4, 16384)
-    );
-    assert_eq!(rt;
-        told(Tail {
-            below: Line,
-            byte: 1,
-        }
-        .wall(b"ab", 2)),
-        Told::Refused(10, 4, 2)
-    );
+    assert_eq!(rt; told(rule.wall(&text, 0)), Err((9, 4, 16384)));
+    assert_eq!(rt; told(rule.wall(&text, 20000)), Err((9, 4, 16384)));
+    assert_eq!(rt; told(Line.wall(&text, 0)), Err((9, 4, 16384)));
+    assert_eq!(rt; told(Line.wall(b"", 0)), Err((10, 4, 0)));
+    let joint = Layered {
+        below: Line,
+        seam: Joint(1),
+    };
+    assert_eq!(rt; told(joint.wall(&text, 0)), Err((9, 4, 16384)));
+    let tail = Layered {
+        below: Line,
+        seam: Tail(1),
+    };
+    assert_eq!(rt; told(tail.wall(b"ab", 2)), Err((10, 4, 2)));
     Ok(())
 }
 
@@ -174,16 +135,10 @@ fn parts(rt: HostRuntime) -> Result<(), Fail> {
     assert_eq!(rt; runs_before(&rule, text, 3)?, None);
     assert_eq!(rt; runs_before(&rule, text, 0)?, Some(0));
     assert!(rt; runs_before(&rule, text, 9).is_err());
-    assert_eq!(rt; told(three_parts(&rule, text, 6, 7)), Told::Counted(1));
-    assert_eq!(rt; told(three_parts(&rule, text, 7, 6)), Told::Counted(0));
-    assert_eq!(rt; told(three_parts(&rule, text, 3, 7)), Told::Counted(0));
-    assert_eq!(rt;
-        told(three_parts(&rule, text, 6, 9)),
-        Told::Refused(10, 4, 9)
-    );
-    assert_eq!(rt;
-        told(three_parts(&rule, text, 10, 9)),
-        Told::Refused(10, 4, 10)
-    );
+    assert_eq!(rt; told(three_parts(&rule, text, 6, 7)), Ok(true));
+    assert_eq!(rt; told(three_parts(&rule, text, 7, 6)), Ok(false));
+    assert_eq!(rt; told(three_parts(&rule, text, 3, 7)), Ok(false));
+    assert_eq!(rt; told(three_parts(&rule, text, 6, 9)), Err((10, 4, 9)));
+    assert_eq!(rt; told(three_parts(&rule, text, 10, 9)), Err((10, 4, 10)));
     Ok(())
 }

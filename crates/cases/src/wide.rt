@@ -1,5 +1,5 @@
-use crate::tools::{Told, counted, edit, read, rule_of, school_rule, verdict};
-use breaks::{TableRule, character};
+use crate::tools::{Counts, Told, edit, read, rule_of, school_rule, told, verdict};
+use breaks::TableRule;
 use rules::Rule;
 use school::school_table;
 use std::alloc::Global;
@@ -11,128 +11,101 @@ use std::test::Fail;
 const WIDER: [(usize, u8); 4] = [(1, 1), (7, 68), (14, 2), (15, 198)];
 
 // Edits of that table, and what is told of it then.
-const EDITED: [(&[(usize, u8)], Told); 46] = [
-    (&[], Told::Accepted(6, 4, 9)),
-    (&[(1, 0), (145, 255)], Told::Refused(5, 1, 145)),
+const EDITED: [(&[(usize, u8)], Told<Counts>); 46] = [
+    (&[], Ok((6, 4, 9))),
+    (&[(1, 0), (145, 255)], Err((5, 1, 145))),
     // k odd and w a class: 3, 4, 256; k of 1 and 127
-    (&[(145, 255), (325, 3)], Told::Accepted(6, 4, 9)),
-    (&[(145, 255), (325, 4)], Told::Refused(5, 1, 145)),
-    (&[(145, 255), (324, 1)], Told::Refused(5, 1, 145)),
-    (&[(145, 129), (325, 3)], Told::Accepted(6, 4, 9)),
-    (&[(145, 129), (325, 4)], Told::Refused(5, 1, 145)),
-    (&[(145, 255), (325, 4), (17, 4)], Told::Refused(5, 1, 17)),
-    (&[(325, 4)], Told::Accepted(6, 4, 9)),
+    (&[(145, 255), (325, 3)], Ok((6, 4, 9))),
+    (&[(145, 255), (325, 4)], Err((5, 1, 145))),
+    (&[(145, 255), (324, 1)], Err((5, 1, 145))),
+    (&[(145, 129), (325, 3)], Ok((6, 4, 9))),
+    (&[(145, 129), (325, 4)], Err((5, 1, 145))),
+    (&[(145, 255), (325, 4), (17, 4)], Err((5, 1, 17))),
+    (&[(325, 4)], Ok((6, 4, 9))),
     // k odd and w of −4: the word at 328 + k − 1 is 3, 4, 256, −256
     (
         &[(145, 255), (324, 255), (325, 252), (329, 3)],
-        Told::Accepted(6, 4, 9),
+        Ok((6, 4, 9)),
     ),
     (
         &[(145, 255), (324, 255), (325, 252), (329, 4)],
-        Told::Refused(5, 1, 145),
+        Err((5, 1, 145)),
     ),
     (
         &[(145, 255), (324, 255), (325, 252), (328, 1)],
-        Told::Refused(5, 1, 145),
+        Err((5, 1, 145)),
     ),
     (
         &[(145, 255), (324, 255), (325, 252), (328, 255)],
-        Told::Refused(5, 1, 145),
+        Err((5, 1, 145)),
     ),
     (
         &[(146, 253), (324, 255), (325, 252), (331, 3)],
-        Told::Accepted(6, 4, 9),
+        Ok((6, 4, 9)),
     ),
     (
         &[(146, 253), (324, 255), (325, 252), (331, 4)],
-        Told::Refused(5, 1, 146),
+        Err((5, 1, 146)),
     ),
     (
         &[(146, 253), (324, 255), (325, 252), (329, 4)],
-        Told::Accepted(6, 4, 9),
+        Ok((6, 4, 9)),
     ),
     (
         &[(145, 129), (324, 255), (325, 252), (455, 3)],
-        Told::Accepted(6, 4, 9),
+        Ok((6, 4, 9)),
     ),
     (
         &[(145, 129), (324, 255), (325, 252), (455, 4)],
-        Told::Refused(5, 1, 145),
+        Err((5, 1, 145)),
     ),
     // w of −384: the word ends at length; of −385, and k of 3: it passes length; of −32768
     (
         &[(145, 255), (324, 254), (325, 128), (709, 3)],
-        Told::Accepted(6, 4, 9),
+        Ok((6, 4, 9)),
     ),
     (
         &[(145, 255), (324, 254), (325, 128), (709, 4)],
-        Told::Refused(5, 1, 145),
+        Err((5, 1, 145)),
     ),
-    (
-        &[(145, 255), (324, 254), (325, 127)],
-        Told::Refused(5, 1, 145),
-    ),
-    (
-        &[(145, 253), (324, 254), (325, 128)],
-        Told::Refused(5, 1, 145),
-    ),
-    (&[(145, 255), (324, 128)], Told::Refused(5, 1, 145)),
+    (&[(145, 255), (324, 254), (325, 127)], Err((5, 1, 145))),
+    (&[(145, 253), (324, 254), (325, 128)], Err((5, 1, 145))),
+    (&[(145, 255), (324, 128)], Err((5, 1, 145))),
     // k of 2: a row at 454 that ends at length, and one that passes it
-    (&[(145, 254), (327, 130)], Told::Accepted(6, 4, 9)),
-    (&[(1, 255), (145, 254), (327, 130)], Told::Accepted(6, 4, 9)),
-    (&[(145, 254), (327, 131)], Told::Refused(5, 1, 145)),
-    (&[(145, 254), (326, 127)], Told::Refused(5, 1, 145)),
+    (&[(145, 254), (327, 130)], Ok((6, 4, 9))),
+    (&[(1, 255), (145, 254), (327, 130)], Ok((6, 4, 9))),
+    (&[(145, 254), (327, 131)], Err((5, 1, 145))),
+    (&[(145, 254), (326, 127)], Err((5, 1, 145))),
     // its first, last and another class
-    (
-        &[(145, 254), (327, 130), (454, 3), (709, 3)],
-        Told::Accepted(6, 4, 9),
-    ),
-    (
-        &[(145, 254), (327, 130), (454, 4)],
-        Told::Refused(5, 1, 145),
-    ),
-    (
-        &[(145, 254), (327, 130), (709, 4)],
-        Told::Refused(5, 1, 145),
-    ),
-    (
-        &[(145, 254), (327, 130), (519, 255)],
-        Told::Refused(5, 1, 145),
-    ),
-    (&[(145, 254), (327, 130), (453, 4)], Told::Accepted(6, 4, 9)),
+    (&[(145, 254), (327, 130), (454, 3), (709, 3)], Ok((6, 4, 9))),
+    (&[(145, 254), (327, 130), (454, 4)], Err((5, 1, 145))),
+    (&[(145, 254), (327, 130), (709, 4)], Err((5, 1, 145))),
+    (&[(145, 254), (327, 130), (519, 255)], Err((5, 1, 145))),
+    (&[(145, 254), (327, 130), (453, 4)], Ok((6, 4, 9))),
     // a row that begins at −1, or far below
-    (
-        &[(145, 254), (326, 254), (327, 187)],
-        Told::Refused(5, 1, 145),
-    ),
-    (&[(145, 254), (326, 128)], Told::Refused(5, 1, 145)),
+    (&[(145, 254), (326, 254), (327, 187)], Err((5, 1, 145))),
+    (&[(145, 254), (326, 128)], Err((5, 1, 145))),
     // auxiliary offset 708: the word passes length; 706: it ends there, and leads back to rows at 452 and 453
-    (&[(6, 2), (7, 196), (145, 254)], Told::Refused(5, 1, 145)),
-    (&[(6, 2), (7, 195), (145, 254)], Told::Refused(5, 1, 145)),
+    (&[(6, 2), (7, 196), (145, 254)], Err((5, 1, 145))),
+    (&[(6, 2), (7, 195), (145, 254)], Err((5, 1, 145))),
     (
         &[(6, 2), (7, 194), (145, 254), (708, 255), (709, 2)],
-        Told::Accepted(6, 4, 9),
+        Ok((6, 4, 9)),
     ),
     (
         &[(6, 2), (7, 194), (145, 254), (708, 255), (709, 3)],
-        Told::Refused(5, 1, 145),
+        Err((5, 1, 145)),
     ),
     // k of 128: a row at 454, and one that passes length
-    (&[(145, 128), (453, 130)], Told::Accepted(6, 4, 9)),
-    (&[(145, 128), (453, 131)], Told::Refused(5, 1, 145)),
-    (
-        &[(145, 128), (453, 130), (709, 4)],
-        Told::Refused(5, 1, 145),
-    ),
-    (
-        &[(145, 128), (452, 255), (453, 0)],
-        Told::Refused(5, 1, 145),
-    ),
+    (&[(145, 128), (453, 130)], Ok((6, 4, 9))),
+    (&[(145, 128), (453, 131)], Err((5, 1, 145))),
+    (&[(145, 128), (453, 130), (709, 4)], Err((5, 1, 145))),
+    (&[(145, 128), (452, 255), (453, 0)], Err((5, 1, 145))),
     // auxiliary offset 581: that word passes length; 580: it ends there, and leads back to a row at 452
-    (&[(6, 2), (7, 69), (145, 128)], Told::Refused(5, 1, 145)),
+    (&[(6, 2), (7, 69), (145, 128)], Err((5, 1, 145))),
     (
         &[(6, 2), (7, 68), (145, 128), (708, 255), (709, 128)],
-        Told::Accepted(6, 4, 9),
+        Ok((6, 4, 9)),
     ),
     (
         &[
@@ -143,12 +116,12 @@ const EDITED: [(&[(usize, u8)], Told); 46] = [
             (709, 128),
             (707, 4),
         ],
-        Told::Refused(5, 1, 145),
+        Err((5, 1, 145)),
     ),
     // both kinds, the one wrong
     (
         &[(145, 255), (146, 254), (325, 3), (327, 131)],
-        Told::Refused(5, 1, 146),
+        Err((5, 1, 146)),
     ),
 ];
 
@@ -175,37 +148,37 @@ const MIXED_TEXT: [u8; 18] = [
 ];
 
 // Places of that text, and the characters there.
-const MIXED_READ: [(usize, Told); 20] = [
-    (0, Told::Read(2, 3)),
-    (2, Told::Read(2, 3)),
-    (4, Told::Read(2, 1)),
-    (6, Told::Read(2, 3)),
-    (8, Told::Read(2, 1)),
-    (10, Told::Read(2, 2)),
-    (12, Told::Read(2, 3)),
-    (14, Told::Read(1, 1)),
-    (15, Told::Read(1, 2)),
-    (16, Told::Read(1, 3)),
+const MIXED_READ: [(usize, Told<(usize, usize)>); 20] = [
+    (0, Ok((2, 3))),
+    (2, Ok((2, 3))),
+    (4, Ok((2, 1))),
+    (6, Ok((2, 3))),
+    (8, Ok((2, 1))),
+    (10, Ok((2, 2))),
+    (12, Ok((2, 3))),
+    (14, Ok((1, 1))),
+    (15, Ok((1, 2))),
+    (16, Ok((1, 3))),
     // a first byte that ends the text
-    (17, Told::Read(1, 0)),
-    (18, Told::Refused(10, 4, 18)),
+    (17, Ok((1, 0))),
+    (18, Err((10, 4, 18))),
     // inside characters
-    (1, Told::Read(1, 0)),
-    (3, Told::Read(2, 3)),
-    (5, Told::Read(1, 1)),
-    (7, Told::Read(1, 1)),
-    (9, Told::Read(1, 0)),
-    (11, Told::Read(1, 0)),
-    (13, Told::Read(1, 1)),
-    (99, Told::Refused(10, 4, 99)),
+    (1, Ok((1, 0))),
+    (3, Ok((2, 3))),
+    (5, Ok((1, 1))),
+    (7, Ok((1, 1))),
+    (9, Ok((1, 0))),
+    (11, Ok((1, 0))),
+    (13, Ok((1, 1))),
+    (99, Err((10, 4, 99))),
 ];
 
 // Characters are counted from where reading starts: places, the character there, and the end of the run from there.
-const COUNTED: [(usize, Told, usize); 4] = [
-    (0, Told::Read(2, 0), 2),
-    (2, Told::Read(2, 0), 4),
-    (1, Told::Read(2, 0), 3),
-    (3, Told::Read(1, 1), 4),
+const COUNTED: [(usize, Told<(usize, usize)>, usize); 4] = [
+    (0, Ok((2, 0)), 2),
+    (2, Ok((2, 0)), 4),
+    (1, Ok((2, 0)), 3),
+    (3, Ok((1, 1)), 4),
 ];
 
 // The wider table after some edits.
@@ -218,9 +191,9 @@ fn wider(heap: Global, edits: &[(usize, u8)]) -> Result<Vec<u8>, Fail> {
 }
 
 // Reads the characters at some places.
-fn reads(rt: &impl Abort, rule: &TableRule, text: &[u8], cases: &[(usize, Told)]) {
+fn reads(rt: &impl Abort, rule: &TableRule, text: &[u8], cases: &[(usize, Told<(usize, usize)>)]) {
     for (place, expected) in cases {
-        assert_eq!(rt; read(character(&rule.table, text, *place)), *expected);
+        assert_eq!(rt; read(&rule.table, text, *place), *expected);
     }
 }
 
@@ -243,16 +216,16 @@ fn characters(rt: HostRuntime) -> Result<(), Fail> {
         &rt,
         &plain,
         &[0x81, 0x41],
-        &[(0, Told::Read(2, 2)), (1, Told::Read(1, 1))],
+        &[(0, Ok((2, 2))), (1, Ok((1, 1)))],
     );
-    reads(&rt, &plain, &[0x81], &[(0, Told::Read(1, 0))]);
+    reads(&rt, &plain, &[0x81], &[(0, Ok((1, 0)))]);
     let back = [(6, 2), (7, 194), (145, 254), (708, 255), (709, 2), (517, 3)];
     let back = rule_of(rt.alloc(), &wider(rt.alloc(), &back)?)?;
     reads(
         &rt,
         &back,
         &[0x81, 0x41],
-        &[(0, Told::Read(2, 3)), (1, Told::Read(1, 1))],
+        &[(0, Ok((2, 3))), (1, Ok((1, 1)))],
     );
     Ok(())
 }
@@ -263,8 +236,8 @@ fn counting(rt: HostRuntime) -> Result<(), Fail> {
     let rule = school_rule(rt.alloc(), &[(1, 1), (145, 255)])?;
     let text = [0x81, 0x81, 0x81, 0x41];
     for (place, expected, end) in COUNTED {
-        assert_eq!(rt; read(character(&rule.table, &text, place)), expected);
-        assert_eq!(rt; counted(rule.end(&text, place)), Told::Counted(end));
+        assert_eq!(rt; read(&rule.table, &text, place), expected);
+        assert_eq!(rt; told(rule.end(&text, place)), Ok(end));
     }
     Ok(())
 }
