@@ -27,6 +27,7 @@ impl SurePairs {
     pub fn count(&self) -> usize
         ensures { result ≡ count_pairs (holds self.now.rows) 128 128 }
     {
+        // `as`: there is no From from u32 to usize
         self.rows.iter().map(|row| row.count_ones() as usize).sum()
     }
 }

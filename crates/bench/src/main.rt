@@ -14,17 +14,12 @@ use steps::{look_once, put_twice, try_once};
 use tables::Table;
 use timing::time;
 
-// A rule by the table in the file `table`.
-fn read_rule(rt: &HostRuntime) -> io::Result<Option<TableRule>> {
-    let accepted = Table::accept(read_table(rt)?);
-    Ok(accepted.ok().map(|table| TableRule { table }))
-}
-
 // Times everything, and writes a line for each call.
 fn bench(rt: &HostRuntime, rounds: usize) -> io::Result<()> {
-    let Some(rule) = read_rule(rt)? else {
+    let Ok(table) = Table::accept(read_table(rt)?) else {
         return println!(rt; "bench: the table is refused");
     };
+    let rule = TableRule { table };
     let mut text = read_text(rt)?;
     let mut buffer = [0; 65536];
     let cut = time(rt, rounds, |_| {

@@ -26,6 +26,7 @@ impl<'a, R> Clone for Page<'a, R> {
 impl<'a, R> Copy for Page<'a, R> {}
 
 impl<'a, R: Rule> Page<'a, R> {
+    // that a place lies in the text is said by each call: a type for places would have to hold its text
     /// Where the run from a place ends.
     pub fn run_end(&self, place: usize) -> usize
         requires { place < length self.now.text.now }
@@ -39,6 +40,7 @@ impl<'a, R: Rule> Page<'a, R> {
         end
     }
 
+    // it reads as `run_end` does, but for the call of the rule that it makes
     /// Whether a wall stands at a place.
     #[tactic(auto, using(crate::proofs::Lawful::wall_joined))]
     pub fn is_wall(&self, place: usize) -> bool

@@ -15,6 +15,7 @@ use std::io;
 const TEXT_MOST: usize = 16384;
 
 fn walls(rt: &HostRuntime) -> Result<(), Failure> {
+    // `as`: there is no From from usize to u64
     let input = read_input(rt, FIRST_LIMIT as u64 + TEXT_LIMIT)?;
     let (request, rest) = match parse(rt.alloc(), &input) {
         Ok(read) => read,
