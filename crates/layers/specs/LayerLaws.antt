@@ -1,13 +1,15 @@
 -- A layer keeps the bounds, and its walls the law, where the rule below does.
-use Rattle.std.specs.Prelude.{◌≡◌, ℕ, zero, suc, ◌+◌, ◌-◌, ◌<◌, ◌≤◌, Bool, true, false, cond, not, List, [], ◌∷◌, ◌++◌, length, drop, nat_lt, slice_index, slice_index_or}
+use Rattle.std.specs.Prelude.{◌≡◌, ℕ, zero, suc, ◌+◌, ◌-◌, ◌<◌, ◌≤◌, Bool, true, false, cond, not, ◌&&◌, List, [], ◌∷◌, ◌++◌, length, drop, nat_lt, slice_index, slice_index_or}
 use Rattle.std.proofs.Math.Path.{sym, ap}
 use Rattle.std.proofs.Common.{subst, ◌∙◌, arith, length-drop, length-append}
 use Rattle.std.proofs.Math.Logic.{⊎_elim}
 use Rattle.std.proofs.lemmas.List.{drop-append-le, drop-drop, get_or-drop, get_or_append_left, get_or-append_right}
 use Rattle.std.proofs.lemmas.Bool.{cond-true, cond-false, cases_Bool, cases_lt, and_parts, and_left, and_right, ltb-true, lt-ltb, le-ltb, not-true}
 use Rattle.rules.specs.Cutting.{Bounded, Joined, first, last}
+use Rattle.rules.specs.Answers.{wall_at}
 use Rattle.layers.specs.Layers.{seam_glued, glued, layer_run, layer_parts}
-use Rattle.rules.specs.Cuts.{shorter, last_drop, joined_by, joined_run, joined_rest}
+use Rattle.rules.specs.Cuts.{shorter, last_drop, last_take, joined_by, joined_run, joined_rest}
+use Rattle.rules.proofs.Lawful.{wall_past}
 
 -- where the layer's run ends that the runs below up to a place begin
 abbrev pub ends_from : (ℕ → ℕ → Bool) → (List ℕ → ℕ) → List ℕ → ℕ → ℕ
@@ -55,6 +57,16 @@ module _ (glues : ℕ → ℕ → Bool) where
       let here : glues (slice_index (xs ++ after) (k - 1)) (slice_index (xs ++ after) k) ≡ false = cc in
       and_right (nat_lt k (length (xs ++ after))) _ here ∙ sym (seam_none k xs ge))
       (cases_lt k (length xs))
+
+  -- a wall past the text's start, by the bytes before and after it
+  pub layer_wall : (parts : List ℕ → List ℕ → Bool) (text : List ℕ) (place : ℕ) → 1 ≤ place → place < length text
+      → wall_at (layer_parts glues parts) text place ≡ (wall_at parts text place && not (glues (slice_index text (place - 1)) (slice_index text place)))
+  layer_wall parts text place one h =
+      let here = wall_past (layer_parts glues parts) text place one in
+      let below = wall_past parts text place one in
+      let before = last_take text place one (omega arith) in
+      let after : first (drop place text) ≡ slice_index_or text place 0 = get_or-drop place text 0 0 ∙ ap (λ j. slice_index text j) (let e : place + 0 ≡ place = omega arith in e) in
+      cc
 
   module _ (run : List ℕ → ℕ) (b : Bounded run) where
     -- what remains behind a seam that is glued is not empty

@@ -1,9 +1,9 @@
 -- A pile of layers has the same runs and walls as one layer that glues where any of them does; and it keeps the bounds and
 -- the law of walls, where the rule below does.
-use Rattle.std.specs.Prelude.{◌≡◌, ℕ, zero, suc, ◌+◌, ◌-◌, ◌<◌, ◌≤◌, Bool, true, false, cond, not, ◌&&◌, ◌||◌, List, [], ◌∷◌, length, drop, ◌==◌, nat_lt, slice_index, refl}
+use Rattle.std.specs.Prelude.{◌≡◌, ℕ, zero, suc, ◌+◌, ◌-◌, ◌<◌, ◌≤◌, Bool, true, false, cond, not, ◌&&◌, ◌||◌, List, [], ◌∷◌, length, drop, ◌==◌, nat_lt, slice_index, slice_index_or, refl}
 use Rattle.std.proofs.Common.{sym, ap, ◌∙◌, ⊎_elim, arith, length-drop}
-use Rattle.std.proofs.lemmas.List.{drop-drop}
-use Rattle.std.proofs.lemmas.Bool.{cond-false, both_ways, cases_Bool, cases_lt, and_right, le-ltb}
+use Rattle.std.proofs.lemmas.List.{drop-drop, at_drop_more, at_drop_all}
+use Rattle.std.proofs.lemmas.Bool.{cond-false, both_ways, cases_Bool, cases_lt, and_right, or_left, le-ltb}
 use Rattle.rules.specs.Cutting.{Bounded, Joined}
 use Rattle.rules.specs.Answers.{about, about_place, end_of, wall_of}
 use Rattle.layers.specs.Layers.{seam_glued, layer_run, layer_parts}
@@ -133,3 +133,14 @@ pub pile_joins : (ls : List Layer) (run : List ℕ → ℕ) → Bounded run → 
 pile_joins [] run b parts joins = joins
 pile_joins (l ∷ ls) run b parts joins =
     pile_joins ls (layer_run (glues_of l) run) (layer_bounded (glues_of l) run b) (layer_parts (glues_of l) parts) (layer_joins (glues_of l) run b parts joins)
+
+-- one turn of asking the layers, from the lowest up
+module _ (before after : ℕ) (ls : List Layer) (i : ℕ) where
+  pub any_hit : (d : Layer) → i < length ls → glues_of (slice_index_or ls i d) before after ≡ true → any_glues (drop i ls) before after ≡ true
+  any_hit d h t = at_drop_more (λ ks. any_glues ks before after) ls i d h ∙ or_left _ _ t
+
+  pub any_miss : (d : Layer) → i < length ls → glues_of (slice_index_or ls i d) before after ≡ false → any_glues (drop (i + 1) ls) before after ≡ any_glues (drop i ls) before after
+  any_miss d h f = sym (at_drop_more (λ ks. any_glues ks before after) ls i d h ∙ ap (λ v. v || any_glues (drop (i + 1) ls) before after) f)
+
+  pub any_none : length ls ≤ i → any_glues (drop i ls) before after ≡ false
+  any_none h = at_drop_all (λ ks. any_glues ks before after) ls i h

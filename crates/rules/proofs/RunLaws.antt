@@ -19,6 +19,12 @@ same_run n m s t e f x y z = ap (λ v. a_run v s e) x ∙ ap (λ v. a_run m v e)
 abbrev pub later_by : ℕ → Run → Run
 later_by n r = a_run (n + r.number) r.start r.end
 
+pub later_more : (n : ℕ) (r s t : Run) → r ≡ later_by n s → s ≡ later_by 1 t → r ≡ later_by (n + 1) t
+later_more n r s t e f = e ∙ ap (later_by n) f ∙ ap (λ m. a_run m t.start t.end) (let z : n + (1 + t.number) ≡ n + 1 + t.number = omega arith in z)
+
+pub later_first : (n s e : ℕ) (r t : Run) → r ≡ later_by n t → t ≡ a_run 0 s e → a_run n s e ≡ r
+later_first n s e r t x y = sym (x ∙ ap (later_by n) y ∙ ap (λ m. a_run m s e) (let z : n + 0 ≡ n = omega arith in z))
+
 -- the run over a place of runs that begin at `from`
 abbrev over : ℕ → List ℕ → ℕ → Run
 over from ks place = nth_from from ks (number_over (place - from) ks)

@@ -1,11 +1,11 @@
 -- What is so of a window, and outside it.
-use Rattle.std.proofs.Common.{◌≡◌, ℕ, ◌+◌, ◌-◌, ◌<◌, ◌≤◌, Bool, true, ◌⊎◌, List, length, set, pos, ◌-ℤ◌, sym, refl, subst, inl, inr, ⊎_elim, arith}
+use Rattle.std.proofs.Common.{◌≡◌, ℕ, ◌+◌, ◌-◌, ◌<◌, ◌≤◌, Bool, true, ◌⊎◌, List, length, drop, set, pos, ◌-ℤ◌, sym, refl, subst, inl, inr, ⊎_elim, arith}
 use Rattle.std.proofs.lemmas.List.{length-set, take-set-le, drop-set-lt}
 use Rattle.std.proofs.lemmas.Bool.{cases_lt, and_parts, both_ways}
 use Rattle.rules.specs.Cutting.{cutting, Bounded, Joined}
 use Rattle.rules.specs.Answers.{wall_at}
 use Rattle.rules.proofs.Lawful.{wall_joined}
-use Rattle.rules.proofs.WallLaws.{inside, Parted}
+use Rattle.rules.proofs.WallLaws.{inside, Parted, parted_inside}
 use Rattle.windows.specs.Windows.{runs, gained, both_walls, window_begin, window_end, IsWindow, SameOutside}
 use Rattle.windows.proofs.Searches.{greatest_le, greatest_passes, greatest_above, least_ge, least_le, least_passes, least_below}
 use Rattle.windows.proofs.Numbers.{parted_end, gained_inside}
@@ -65,6 +65,15 @@ module _ (run : List ℕ → ℕ) (b : Bounded run) (parts : List ℕ → List �
         (λ (lt : to < length xs). both_parted xs (set xs p v) to (w.to_wall lt))
         (λ (ge : length xs ≤ to). (parted_end run b xs to ge, parted_end run b (set xs p v) to (omega (arith, length-set xs p v))))
         (cases_lt to (length xs))
+
+    -- its end is a wall of what follows its start
+    pub window_joined : (from to : ℕ) → IsWindow parts xs (set xs p v) p from to
+        → Joined run (inside from to xs) (drop to xs) × Joined run (inside from to (set xs p v)) (drop to (set xs p v))
+    window_joined from to w =
+        let le : from ≤ to = omega (arith, w.low, w.high) in
+        let f = from_parted from to w in
+        let t = to_parted from to w in
+        (parted_inside run b xs from to le f.0 t.0, parted_inside run b (set xs p v) from to le f.1 t.1)
 
     -- the difference counted inside is that of the whole texts
     pub window_gained : (from to : ℕ) → IsWindow parts xs (set xs p v) p from to
