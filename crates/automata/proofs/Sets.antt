@@ -1,14 +1,17 @@
 -- What is in a set after one number more.
-use Rattle.std.proofs.Common.{◌≡◌, ℕ, ◌*◌, ◌%◌, ◌^◌, ◌<◌, ◌≤◌, ◌⊎◌, sym, ◌∙◌, subst, inl, inr, arith}
+use Rattle.std.proofs.Common.{◌≡◌, ℕ, ◌*◌, ◌/◌, ◌%◌, ◌^◌, ◌<◌, ◌≤◌, ◌⊎◌, sym, ap, ◌∙◌, subst, inl, inr, arith}
 use lib.Bits.{bit_or, or_add_and}
 use mir.Syntax.{w64}
-use Rattle.std.proofs.lemmas.Nat.{and_le_r}
+use Rattle.std.proofs.lemmas.Nat.{or_shr, or_mod, and_le_r}
 use Rattle.std.proofs.lemmas.Nat.Bits.{bit_at_set_same, bit_at_set_other}
 use Rattle.std.proofs.lemmas.Bool.{cases_eq}
 use Rattle.automata.specs.Sets.{Has}
 
 or_grows : (m x : ℕ) → m ≤ bit_or m x
 or_grows m x = omega (arith, or_add_and m x, and_le_r m x)
+
+pub bit_of_or : (m x k : ℕ) → bit_or m x / 2 ^ k % 2 ≡ bit_or (m / 2 ^ k % 2) (x / 2 ^ k % 2)
+bit_of_or m x k = ap (λ (n : ℕ). n % 2) (or_shr m x k) ∙ or_mod (m / 2 ^ k) (x / 2 ^ k) 1
 
 -- the set with t
 abbrev pub with_one : ℕ → ℕ → ℕ

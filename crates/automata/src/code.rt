@@ -80,3 +80,12 @@ impl Code {
         self.marks() && self.next() == to
     }
 }
+
+/// The byte of a code.
+impl From<Code> for u8 {
+    ghost from_gives = { λ code byte. byte ≡ code };
+
+    fn from(code: Code) -> u8 {
+        code.byte
+    }
+}

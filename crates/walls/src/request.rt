@@ -1,4 +1,4 @@
-ghost use Rattle.std.specs.Prelude.{ℕ, ◌<◌, length, IfSome};
+ghost use Rattle.std.specs.Prelude.{◌≡◌, ℕ, ◌<◌, ◌≤◌, length, drop, IfSome, IfOk};
 
 use requests::{Request, Unread};
 use std::alloc::Global;
@@ -25,7 +25,9 @@ fn is_padded(word: &str) -> bool {
 }
 
 /// Reads the first line, and gives the text that follows it.
-pub fn parse(heap: Global, input: &[u8]) -> Result<(Request, &[u8]), Unread> {
+pub fn parse(heap: Global, input: &[u8]) -> Result<(Request, &[u8]), Unread>
+    ensures { IfOk result (λ q. (n : ℕ) × (n ≤ length input.now) × (q.1.now ≡ drop n input.now)) }
+{
     let end = first_line(input).ok_or(Unread::NoRule)?;
     let line = std::str::from_utf8(&input[..end]).map_err(|_| Unread::NoRule)?;
     let request = Request::parse(heap, line)?;
