@@ -25,13 +25,6 @@ loop-at-init c =
     let low = (listed b Backward (list_passes b (table_passes t) Backward)).low in
     (omega arith, omega arith, omega arith, omega arith, back_scan (machine b Backward) (backward_from b c.args.characters.now.text.now c.args.place), λ l. omega arith)
 
-pub code-code-requires : goal.code-code-requires
-code-code-requires c =
-    let m = c.backward-backward.ensures in
-    let state = c.loop-at.invariant.3 in
-    let class = c.at-here.ensures.low in
-    (c.loop-at.invariant.2, (subst (λ (n : ℕ). c.loop-at.state < n) (sym m.states) state, subst (λ (n : ℕ). c.at-here.result.class < n) (sym m.classes) class))
-
 pub loop-at-preserved : goal.loop-at-preserved
 loop-at-preserved c =
     let t = c.args.characters.now.table.now in

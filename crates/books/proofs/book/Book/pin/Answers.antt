@@ -9,7 +9,7 @@ use Rattle.books.specs.Faithful.{places_of}
 use Rattle.books.proofs.Chosen.{was_none, told_some, told_none}
 use Rattle.books.proofs.Trues.{a_pin}
 use Rattle.books.proofs.Pinnings.{at_there, at_none}
-use Rattle.books.proofs.PinLaws.{follows_by, left_err, pinned_again, pinned_new, pins_full, left_again, left_new}
+use Rattle.books.proofs.PinLaws.{follows_by, pinned_again, pinned_new, pins_full, left_again, left_new}
 use Rattle.books.proofs.book.Book.pin.Goals as goal
 
 pub returns-in-Some : goal.returns-in-Some
@@ -51,21 +51,6 @@ returns-in_err-self-clause-plain g c f =
     let p = err_from_is_err_and c.from_residual-in_err-self.result c.from_residual-in_err-self.ensures.1 in
     rw (p.1, p.2, none.1) (pins_full run (g.met.R.Rule.bounds book.rule) parts (g.met.R.Rule.joins book.rule) text (kept book.pins) f.are_true c.args.place c.in_ok-check_place.ensures.1 c.wall_not_above-wall.result wall.value wall.within wall.wall
     (sym c.in_default.is ∙ c.at.ensures.value) full.0)
-
-pub returns-in_err-self-clause-follows : goal.returns-in_err-self-clause-follows
-returns-in_err-self-clause-follows g c f =
-    let book = c.args.self.now in
-    let text = c.args.text.now in
-    let run = g.R.Rule.run book.rule in
-    let parts = g.R.Rule.parts book.rule in
-    let wall = c.wall_not_above-wall.ensures in
-    let none = was_none c.with.result _ _ c.in_err-self.ensures.value in
-    let full = told_none c.with.result _ _ c.with.ensures none.0 in
-    record {
-      stays_faithful = f;
-      is_plain = sym (left_err _ _ _ _ (pins_full run (g.met.R.Rule.bounds book.rule) parts (g.met.R.Rule.joins book.rule) text (kept book.pins) f.are_true c.args.place c.in_ok-check_place.ensures.1 c.wall_not_above-wall.result wall.value wall.within wall.wall
-          (sym c.in_default.is ∙ c.at.ensures.value) full.0));
-    }
 
 pub returns-in_err-self-clause-strange : goal.returns-in_err-self-clause-strange
 returns-in_err-self-clause-strange g c =

@@ -24,9 +24,6 @@ unreachable-requires c =
     let b = c.args.self.now.parts.bytes.now in
     both_ways (fits b (row_start b c.args.self.now.k) 256) c.in_default.ensures.place (even_row b c.requires.0 c.args.self.now.k c.requires.1)
 
-pub overflow_add-at : goal.overflow_add-at
-overflow_add-at c = let y = c.ranges.second in let is = c.from.ensures in let at = c.in-Some.ensures.low in omega arith
-
 pub returns : goal.returns
 returns c =
     let b = c.args.self.now.parts.bytes.now in

@@ -20,10 +20,3 @@ returns-then-fits-clause-place c =
     let end = fits_inside b (row_start b c.args.self.now.k) 256 inside in
     let h = (head b c.args.self.now.parts.sound).size_high in
     (inside, at, omega arith)
-
-pub returns-else-fits-clause-place : goal.returns-else-fits-clause-place
-returns-else-fits-clause-place c =
-    let b = c.args.self.now.parts.bytes.now in
-    let f : SFits w32 c.signed_row_place-start.result = search rules in
-    let e : ◌≡◌ {A = ℤ} (to_z w32 (of_z w32 c.signed_row_place-start.result)) (row_start b c.args.self.now.k) = to_z-of_z w32 _ f ∙ c.signed_row_place-start.ensures in
-    fits_same b _ _ _ c.head.ensures e ∙ sym c.fits.ensures ∙ c.if-fits.false

@@ -1,5 +1,5 @@
 use Rattle.std.proofs.Common.{◌≡◌, ℕ, ◌-◌, ◌*◌, ◌<◌, ◌≤◌, List, length, get_or, sym, ap, ◌∙◌, subst, arith}
-use Rattle.automata.specs.Machine.{code_at, next}
+use Rattle.automata.specs.Machine.{next}
 use Rattle.refusals.specs.declared.Direction.{Direction}
 use Rattle.refusals.specs.declared.Direction.TheVariants.{Forward}
 use Rattle.tables.specs.Layout.{states, classes, codes, code_place, code_count}
@@ -42,20 +42,4 @@ new-requires c =
     record {
       extent = (omega arith, (omega arith, (omega arith, (omega arith, size))));
       named = named b d c.code_rows.result.now c.state_count.result p rows total s;
-    }
-
-pub returns : goal.returns
-returns c =
-    let b = c.args.self.now.bytes.now in
-    let d = c.args.direction in
-    let e = c.parts-parts.ensures in
-    let same = c.new.ensures.same in
-    let rows = same.0 ∙ c.code_rows.ensures.value ∙ ap (λ (l : List ℕ). codes l d) e in
-    let total = same.1.1 ∙ c.class_count.ensures.value ∙ ap classes e in
-    record {
-      machine =
-          ap (λ (l : List ℕ). code_at l c.new.result.classes) rows
-          ∙ ap (λ (n : ℕ). code_at (codes b d) n) total;
-      states = same.1.0 ∙ c.state_count.ensures.value ∙ ap (λ (l : List ℕ). states l d) e;
-      classes = total;
     }

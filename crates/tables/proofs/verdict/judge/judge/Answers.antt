@@ -1,5 +1,4 @@
-use Rattle.std.proofs.Common.{◌≡◌, ℕ, ◌+◌, ◌-◌, List, Decides, sym, ap, ◌∙◌, subst, inr, arith}
-use Rattle.std.proofs.lemmas.Nat.{mul-le}
+use Rattle.std.proofs.Common.{◌≡◌, ℕ, ◌+◌, List, Decides, sym, ap, ◌∙◌, subst, inr, arith}
 use Rattle.refusals.specs.declared.Direction.TheVariants.{Forward}
 use Rattle.refusals.specs.declared.Refusal.TheVariants.{NonAdvancing}
 use Rattle.automata.specs.Machine.{Advances}
@@ -20,14 +19,6 @@ moved P f g m n e q p = subst (λ (k : ℕ). P g k) q (subst (λ (h : ℕ → �
 module _ (a b : List ℕ) (e : b ≡ a) where
   pub machine-of : machine b Forward ≡ machine a Forward
   machine-of = ap (λ (l : List ℕ). machine l Forward) e
-
-pub overflow_add-result : goal.overflow_add-result
-overflow_add-result c =
-    let m = c.machine-forward.result in
-    let k = c.in-Some.ensures.within in
-    let most = mul-le (m.states - 1) m.classes 63 128 (let h = m.high in omega arith) m.few in
-    let at = c.first_code_place-at.ensures.low in
-    omega arith
 
 pub returns-in-Some : goal.returns-in-Some
 returns-in-Some c =
