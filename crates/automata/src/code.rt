@@ -1,4 +1,4 @@
-ghost use Rattle.std.specs.Prelude.{◌≡◌, ℕ, ◌<◌, Decides};
+ghost use Rattle.std.specs.Prelude.{◌≡◌, ℕ, ◌%◌, ◌<◌, Decides, ◌==◌};
 ghost use Rattle.automata.specs.Machine.{next, marks, exits};
 ghost use Rattle.automata.specs.Reach.{Goes};
 ghost use Rattle.automata.specs.Stuck.{Exits};
@@ -44,6 +44,13 @@ impl Code {
         usize::from(self.byte % 128 / 2)
     }
 
+    /// Whether the code is even, as each code of an accepted table is.
+    pub fn is_even(self) -> bool
+        ensures { result ≡ (self % 2 == 0) }
+    {
+        self.byte % 2 == 0
+    }
+
     /// Whether the code exits.
     pub fn exits(self) -> bool
         ensures { result ≡ exits self }
@@ -52,14 +59,14 @@ impl Code {
     }
 
     // `quiet` stays a flag: an enum of loud and quiet would be no plainer, since the definitions speak of a Bool
-    /// Whether the code exits and, where only quiet codes are asked for, does not mark.
+    /// Whether the code exits and, where only quiet codes count, does not mark.
     pub(crate) fn exits_by(self, quiet: bool) -> bool
         ensures { Decides result (Exits quiet self) }
     {
         self.exits() && !(quiet && self.marks())
     }
 
-    /// Whether the code goes on: it does not exit and, where only quiet codes are asked for, does not mark.
+    /// Whether the code goes on: it does not exit and, where only quiet codes count, does not mark.
     pub(crate) fn goes(self, quiet: bool) -> bool
         ensures { Decides result (Goes quiet self) }
     {
@@ -81,7 +88,7 @@ impl Code {
     }
 }
 
-/// The byte of a code.
+/// The byte of a code, for a caller that wants it as it stands in the table.
 impl From<Code> for u8 {
     ghost from_gives = { λ code byte. byte ≡ code };
 

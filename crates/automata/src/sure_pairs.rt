@@ -27,7 +27,8 @@ impl SurePairs {
     pub fn count(&self) -> usize
         ensures { result ≡ count_pairs (holds self.now.rows) 128 128 }
     {
-        // `as`: there is no From from u32 to usize
+        // `as`: there is no From from u32 to usize, and that nothing is lost is proved, so that
+        // `try_from` with an arm that cannot come is no plainer
         self.rows.iter().map(|row| row.count_ones() as usize).sum()
     }
 }

@@ -7,7 +7,7 @@ use crate::code::Code;
 use crate::state_set::StateSet;
 
 impl StateTable<'_> {
-    /// The first class by which a state exits.
+    // The first class by which a state exits.
     fn first_exit(&self, quiet: bool, state: usize) -> Option<usize>
         requires { (1 ≤ state) × (state < self.now.states) }
         ensures { Least (ExitsOn quiet (code_of self.now) self.now.classes state) result }
@@ -17,7 +17,7 @@ impl StateTable<'_> {
             .position(|byte| Code::new(*byte).exits_by(quiet))
     }
 
-    /// The index of the first code by which a state of the set exits without a mark.
+    // The index of the first code by which a state of the set exits without a mark.
     fn first_quit(&self, set: StateSet) -> Option<usize>
         ensures least { Least (QuitsBy (code_of self.now) self.now.states self.now.classes set.bits) result }
         ensures within { IfSome result (λ k. k < (self.now.states - 1) * self.now.classes) }
@@ -25,7 +25,7 @@ impl StateTable<'_> {
         self.first_code(|state| self.first_quit_of(set, state))
     }
 
-    /// The first class by which a state exits without a mark, if the set has that state.
+    // The first class by which a state exits without a mark, if the set has that state.
     fn first_quit_of(&self, set: StateSet, state: usize) -> Option<usize>
         requires { (1 ≤ state) × (state < self.now.states) }
         ensures { Least (QuitsOn (code_of self.now) self.now.classes set.bits state) result }

@@ -26,7 +26,7 @@ impl StateTable<'_> {
         all
     }
 
-    /// The set with each state that a code of its states leads to, and some of those that these lead to.
+    // The set with each state that a code of its states leads to, and some of those that these lead to.
     fn pass(&self, quiet: bool, set: StateSet) -> StateSet
         ensures grows { set.bits ≤ result.bits }
         ensures keeps { (k : ℕ) → Has set.bits k → Has result.bits k }
@@ -34,7 +34,8 @@ impl StateTable<'_> {
         ensures only { (k : ℕ) → Has result.bits k → From quiet (code_of self.now) self.now.classes set.bits k }
     {
         let mut all = set;
-        // no iterator over the states of a set: `all` grows while its states are read, which saves passes
+        // a loop, and no chain over the states of a set: `all` grows while its states are read, which saves passes. Elsewhere the
+        // states of a set are gone through by the same range: an iterator type of their own would be no plainer
         for state in 1..self.states {
             if all.has(state) {
                 all = self.spread(quiet, state, all);
@@ -50,7 +51,7 @@ impl StateTable<'_> {
         ensures complete { (k : ℕ) → From quiet (code_of self.now) self.now.classes start.bits k → Has result.bits k }
     {
         let mut set = start;
-        // no iterator: each pass begins with what the last one found, until it finds no more
+        // a loop: `successors` would give the same sets, but two neighbours would have to be compared to find the end
         loop {
             let more = self.pass(quiet, set);
             if more == set {

@@ -19,7 +19,7 @@ impl<'a> StateTable<'a> {
         }
     }
 
-    // that a state is one of the table's is said by each call: a type for states would have to hold its table
+    // that a state or a class is one of the table's is said by each call: a type for them would have to hold their table
     /// The code of a state and a class.
     pub fn code(&self, state: usize, class: usize) -> Code
         requires { (1 ≤ state) × ((state < self.now.states) × (class < self.now.classes)) }

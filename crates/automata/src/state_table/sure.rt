@@ -8,14 +8,14 @@ use crate::state_set::StateSet;
 use crate::sure_pairs::SurePairs;
 
 impl StateTable<'_> {
-    /// The states that a class leads to from the states of the set without exit.
+    // The states that a class leads to from the states of the set without exit.
     fn after(&self, set: StateSet, class: usize) -> StateSet
         requires { class < self.now.classes }
         ensures sound { (k : ℕ) → Has result.bits k → Follows (code_of self.now) self.now.states set.bits class k }
         ensures complete { (k : ℕ) → Follows (code_of self.now) self.now.states set.bits class k → Has result.bits k }
     {
         let mut all = StateSet::empty();
-        // states are gathered one by one: a `fold` over them would be no plainer
+        // a loop and no `fold`: that would hand the set on at each step as this loop does
         for state in 1..self.states {
             if set.has(state) {
                 let code = self.code(state, class);
@@ -27,7 +27,7 @@ impl StateTable<'_> {
         all
     }
 
-    /// Whether a class marks and exits in every state of the set.
+    // Whether a class marks and exits in every state of the set.
     fn stops(&self, set: StateSet, class: usize) -> bool
         requires { class < self.now.classes }
         ensures { Decides result (Stops (code_of self.now) self.now.states set.bits class) }
@@ -35,12 +35,12 @@ impl StateTable<'_> {
         (1..self.states).all(|state| !set.has(state) || self.code(state, class).ends())
     }
 
-    /// The classes that mark and exit in every state of the set, as bits.
+    // The classes that mark and exit in every state of the set, as bits.
     fn stop_row(&self, set: StateSet) -> u128
         ensures within { (b : ℕ) → b < self.now.classes → Decides (result / 2 ^ b % 2 == 1) (Stops (code_of self.now) self.now.states set.bits b) }
         ensures beyond { (b : ℕ) → self.now.classes ≤ b → result / 2 ^ b % 2 ≡ 0 }
     {
-        // bits are set one by one: a `fold` over the classes would be no plainer
+        // a loop and no `fold`: that would hand the row on at each step as this loop does
         let mut row = 0u128;
         for b in 0..self.classes {
             if self.stops(set, b) {
@@ -50,8 +50,8 @@ impl StateTable<'_> {
         row
     }
 
-    /// The classes b, as bits, for which class a exits in every state of the set, or leads to a state in which b marks and exits;
-    /// none where a is no class.
+    // The classes b, as bits, for which class a exits in every state of the set, or leads to a state in which b marks and exits;
+    // none where a is no class.
     fn halt_row(&self, set: StateSet, a: usize) -> u128
         ensures within { a < self.now.classes → (b : ℕ) → b < self.now.classes → Decides (result / 2 ^ b % 2 == 1) (HaltsIn (code_of self.now) self.now.states set.bits a b) }
         ensures beyond { (b : ℕ) → self.now.classes ≤ b → result / 2 ^ b % 2 ≡ 0 }
@@ -71,7 +71,7 @@ impl StateTable<'_> {
         ensures second { (a b : ℕ) → self.now.classes ≤ b → holds result.rows a b ≡ false }
     {
         let reached = self.reach();
-        // `array::from_fn` was tried: what it says of its 128 calls is too long for the proof of one to close
+        // `array::from_fn` was tried: the proof did not close, since its promise names each of the 128 calls
         let mut rows = [0; 128];
         for (a, row) in rows.iter_mut().enumerate() {
             *row = self.halt_row(reached, a);

@@ -10,7 +10,7 @@ use Rattle.automata.proofs.state_table.StateTable.unsteady.Goals as goal
 pub returns : goal.returns
 returns c =
     let table = c.args.self.now in
-    let reached = c.reach-reached.ensures in
+    let reached = c.reach.ensures in
     let after = c.spoilt-after.ensures in
     let late = c.closure-late.result.bits in
     let late-sound : (k : ℕ) → Has late k → From true (code_of table) table.classes c.spoilt-after.result.bits k = search rules in
@@ -18,7 +18,7 @@ returns c =
     record {
       least =
           unsteady_least (code_of table) table.states table.classes (holds c.args.sure.now.rows) table.low (next_within table)
-          c.reach-reached.result.bits c.spoilt-after.result.bits after.sound reached.sound reached.complete after.complete
+          c.reach.result.bits c.spoilt-after.result.bits after.sound reached.sound reached.complete after.complete
           late late-sound late-complete c.first_shaky_code.result c.first_shaky_code.ensures.least;
       within = c.first_shaky_code.ensures.within;
     }
