@@ -33,8 +33,8 @@ impl<S: Seam, R: Rule> Rule for Layered<S, R> {
     }
 }
 
-// Where a layer's run from a place ends.
-pub fn layer_end<R: Rule, S: Seam>(
+/// Where a layer's run from a place ends.
+pub(crate) fn layer_end<R: Rule, S: Seam>(
     below: &R,
     seam: &S,
     text: &[u8],
@@ -44,15 +44,16 @@ pub fn layer_end<R: Rule, S: Seam>(
 {
     let mut at = below.end(text, place)?;
     let page = Page { rule: below, text };
-    // the iterator of runs would look for the end of one run more than is glued
+    // a loop: `take_while` over the runs would look for the end of one run more than is glued, and `find` is no plainer,
+    // since its closure would need to know that each run lies in the text
     while at < text.len() && seam.glued(text[at - 1], text[at]) {
         at = page.run_end(at);
     }
     Ok(at)
 }
 
-// Whether a layer has a wall at a place.
-pub fn layer_wall<R: Rule, S: Seam>(
+/// Whether a layer has a wall at a place.
+pub(crate) fn layer_wall<R: Rule, S: Seam>(
     below: &R,
     seam: &S,
     text: &[u8],

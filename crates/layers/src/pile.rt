@@ -7,6 +7,7 @@ use crate::seams::{Joint, Seam, Tail};
 use refusals::Refusal;
 use rules::Rule;
 
+// with the bytes, and not with the seams `Joint` and `Tail`: who names a layer names a byte
 /// A layer of a pile, with its byte.
 #[derive(Clone, Copy, PartialEq, Eq, Debug)]
 pub enum Layer {
@@ -36,6 +37,8 @@ impl Seam for Vec<Layer> {
     }
 }
 
+// a type of its own beside `Layered<Vec<Layer>, R>`: its runs are defined layer by layer, as a reader thinks of a pile, and
+// there by one seam; for one impl of both, each seam would have to tell runs and walls, with two laws
 /// Any number of layers over a rule, the lowest first: each stands on what the ones below it make of the rule.
 #[derive(Drop)]
 pub struct Pile<R> {

@@ -1,12 +1,14 @@
 -- The last pin that passes a test.
-use Rattle.std.proofs.Common.{◌≡◌, ℕ, Bool, true, false, cond, List, [], ◌∷◌, reverse, Some, None, Option, sym, refl, ap, ◌∙◌, subst, ⊎_elim, arith}
-use Rattle.std.specs.List.{AllByRecursion, find}
+use Rattle.std.proofs.Common.{◌≡◌, ℕ, zero, suc, ◌-◌, ◌≤◌, Bool, true, false, cond, List, [], ◌∷◌, length, take, reverse, Some, None, Option, sym, refl, ap, ◌∙◌, subst, ⊎_elim, arith}
+use Rattle.std.specs.List.{AllByRecursion, AllWithin, find, slice_get}
+use Rattle.std.specs.List.Sorted.{IsPartitionPoint}
 use Rattle.std.specs.Option.{option_or, IfSome}
 use Rattle.std.proofs.lemmas.List.{reverse-append}
 use Rattle.std.proofs.lemmas.List.Folds.{find-append}
+use Rattle.std.proofs.lemmas.Option.{slice_get-get_or}
 use Rattle.std.proofs.lemmas.Bool.{cond-true, cond-false, cases_Bool}
 use Rattle.pins.specs.declared.pin.Pin.{Pin}
-use Rattle.pins.specs.Order.{or_else, last_by, rising, IsInside}
+use Rattle.pins.specs.Order.{or_else, last_by, rising, nought, IsInside}
 use Rattle.pins.proofs.Rising.{all_inside}
 
 -- it is what is found from the end
@@ -44,3 +46,28 @@ last_inside size test qs (Some p) s e = last_of (IsInside size) test qs p (all_i
 pub found_last : (size : ℕ) (test : Pin → Bool) (qs : List Pin) (o : Option Pin) → rising size qs ≡ true → o ≡ find test (reverse qs)
     → (o ≡ last_by test qs) × IfSome o (λ p. IsInside size p × (test p ≡ true))
 found_last size test qs o s e = let is = e ∙ last_is_found test qs in (is, last_inside size test qs o s is)
+
+-- of the pins up to a place, which come first in a rising list, it is the last
+last_more : (q : Pin) (rs : List Pin) → or_else (slice_get rs (length rs - 1)) (Some q) ≡ slice_get (q ∷ rs) (length (q ∷ rs) - 1)
+last_more q [] = refl
+last_more q (r ∷ rs) =
+    let i : suc (length rs) - 1 ≡ length rs = omega arith in
+    let e = slice_get-get_or (r ∷ rs) (length rs) nought (omega arith) in
+    let j : suc (suc (length rs)) - 1 ≡ suc (length rs) = omega arith in
+    ap (λ (o : Option Pin). or_else o (Some q)) (ap (slice_get (r ∷ rs)) i ∙ e) ∙ sym e ∙ sym (ap (slice_get (q ∷ r ∷ rs)) j)
+
+last_taken : (test : Pin → Bool) (qs : List Pin) (n : ℕ) → AllWithin (λ q. test q ≡ true) qs 0 n → AllWithin (λ q. test q ≡ false) qs n (length qs) → n ≤ length qs
+    → last_by test qs ≡ slice_get (take n qs) (length (take n qs) - 1)
+last_taken test [] zero here rest le = refl
+last_taken test [] (suc n) here rest le = refl
+last_taken test (q ∷ qs) zero here rest le =
+    ap (or_else (last_by test qs)) (cond-false _ _ _ (rest 0 nought (omega arith) (omega arith)))
+    ∙ ap (λ (r : Option Pin). or_else r None) (last_taken test qs zero (λ i d l h. absurd (let z : ⊥ = omega arith in z)) (λ i d l h. rest (suc i) d (omega arith) (omega arith)) (omega arith))
+last_taken test (q ∷ qs) (suc n) here rest le =
+    ap (or_else (last_by test qs)) (cond-true _ _ _ (here 0 nought (omega arith) (omega arith)))
+    ∙ ap (λ (r : Option Pin). or_else r (Some q)) (last_taken test qs n (λ i d l h. here (suc i) d (omega arith) (omega arith)) (λ i d l h. rest (suc i) d (omega arith) (omega arith)) (omega arith))
+    ∙ last_more q (take n qs)
+
+pub parted_last : (size : ℕ) (test : Pin → Bool) (qs : List Pin) (n : ℕ) (o : Option Pin) → rising size qs ≡ true → n ≤ length qs → IsPartitionPoint (λ q. test q ≡ true) (λ q. test q ≡ false) qs n
+    → o ≡ slice_get (take n qs) (length (take n qs) - 1) → (o ≡ last_by test qs) × IfSome o (λ p. IsInside size p × (test p ≡ true))
+parted_last size test qs n o s le point e = let is = e ∙ sym (last_taken test qs n point.0 point.1 le) in (is, last_inside size test qs o s is)

@@ -2,15 +2,16 @@
 use Rattle.std.proofs.Common.{◌≡◌, ℕ, zero, suc, ◌<◌, ◌≤◌, Bool, true, false, T, eqb, List, [], ◌∷◌, length, get_or, Some, None, Option, Ok, Err, Result, sym, refl, ap, ◌∙◌, subst, ⊎_elim, le_refl, arith}
 use Rattle.std.specs.List.{insert as inserted, remove}
 use Rattle.std.specs.List.{slice_get, AllByRecursion}
-use Rattle.std.specs.List.Sorted.{IsSearchInRange, IsBinarySearchResult}
+use Rattle.std.specs.List.Sorted.{IsSearchInRange, IsBinarySearchResult, IsPartitionedBy}
+use Rattle.std.specs.Result.{result_ok}
 use Rattle.std.specs.Option.{MatchOption, IfSome}
 use Rattle.std.specs.Ordering.{nat_cmp, ordering_index}
 use Rattle.std.proofs.lemmas.Option.{slice_get_cases, get_or_from_slice_get}
 use Rattle.std.proofs.lemmas.Bool.Decides.{nat_tests}
 use Rattle.std.proofs.lemmas.Bool.{cases_lt, cond-true, cond-false, ne_eqb, eq-eqb, ltb-true, lt-ltb, le-ltb}
-use Rattle.std.proofs.lemmas.List.Sorted.{IsNonDecreasingBy-from_default}
+use Rattle.std.proofs.lemmas.List.Sorted.{IsNonDecreasingBy-from_default, IsPartitionedBy-leb}
 use Rattle.pins.specs.declared.pin.Pin.{Pin}
-use Rattle.pins.specs.Order.{above, rising, insert, without, pin_at, nought, IsInside, IsSpot}
+use Rattle.pins.specs.Order.{above, rising, insert, without, pin_at, nought, up_to, IsInside, IsSpot}
 
 pub T_true : (b : Bool) → T b → b ≡ true
 T_true true t = refl
@@ -112,12 +113,26 @@ module _ (size n : ℕ) (qs : List Pin) (rise : rising size qs ≡ true) where
     pub put_new : (p : Pin) → p.place ≡ n → insert p qs ≡ inserted qs k p
     put_new p e = insert_new p qs k spot.0 (λ i l. omega (arith, spot.1 i l)) (λ i g h. omega (arith, spot.2 i g h))
 
+  -- what is found at the spot, if it is the place of a pin
+  pub at_spot : (r : Result ℕ ℕ) (k : ℕ) → IsSpot n qs r → Some k ≡ result_ok r → (k < length qs) × (pin_at n qs ≡ Some (get_or qs k nought))
+  at_spot (Ok j) k spot e = let same : j ≡ k = cc in rw (sym same) (spot.0, (there j spot).1)
+  at_spot (Err j) k spot e = absurd cc
+
+  pub off_spot : (r : Result ℕ ℕ) → IsSpot n qs r → None ≡ result_ok r → pin_at n qs ≡ None
+  off_spot (Ok j) spot e = absurd cc
+  off_spot (Err j) spot e = (nowhere j spot).1
+
+  -- no place is above a later one
+  up : (i j : ℕ) → i ≤ j → j < length qs → (get_or qs i nought).place ≤ (get_or qs j nought).place
+  up i j le h =
+      ⊎_elim (λ l. omega (arith, rises size qs rise i j l h)) (λ g. let e : i ≡ j = omega arith in rw e (le_refl _)) (cases_lt i j)
+
+  pub parts_at : IsPartitionedBy (up_to n) qs
+  parts_at = IsPartitionedBy-leb (λ q. q.place) qs n (IsNonDecreasingBy-from_default (λ q. q.place) qs nought up)
+
   -- what a binary search for the place says
   compares_up : (i j : ℕ) → i ≤ j → j < length qs → ordering_index (nat_cmp (get_or qs i nought).place n) ≤ ordering_index (nat_cmp (get_or qs j nought).place n)
-  compares_up i j le h =
-      let up : (get_or qs i nought).place ≤ (get_or qs j nought).place =
-      ⊎_elim (λ l. omega (arith, rises size qs rise i j l h)) (λ g. let e : i ≡ j = omega arith in rw e (le_refl _)) (cases_lt i j) in
-      grind (arith, nat_tests)
+  compares_up i j le h = let l = up i j le h in grind (arith, nat_tests)
 
   pub spot_found : (r : Result ℕ ℕ) → IsSearchInRange r (length qs) → IsBinarySearchResult (λ q. nat_cmp q.place n) qs r → IsSpot n qs r
   spot_found (Ok k) within b = (within, let e = b nought in grind (arith, nat_tests))

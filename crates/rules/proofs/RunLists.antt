@@ -1,5 +1,5 @@
 -- The runs of a text as a list, one after the other.
-use Rattle.std.proofs.Common.{◌≡◌, ℕ, zero, suc, ◌+◌, ◌<◌, ◌≤◌, ltb, Bool, List, [], ◌∷◌, ◌++◌, length, drop, Option, Some, None, MatchOption, slice_get, option_map, sym, refl, ap, ◌∙◌, subst, ⊎_elim, arith}
+use Rattle.std.proofs.Common.{◌≡◌, ℕ, zero, suc, ◌+◌, ◌<◌, ◌≤◌, ltb, Bool, List, [], ◌∷◌, ◌++◌, length, drop, Option, Some, None, IsSome, MatchOption, slice_get, option_map, sym, refl, ap, ◌∙◌, subst, ⊎_elim, arith}
 use Rattle.std.specs.List.{find}
 use Rattle.std.proofs.lemmas.List.{drop_all}
 use Rattle.std.proofs.lemmas.Bool.{cond-true, cond-false, cases_lt, lt-ltb, le-ltb}
@@ -32,6 +32,11 @@ Within top (r ∷ rs) = (r.start < r.end) × (r.end ≤ top) × Within top rs
 -- a run ends past a place
 abbrev pub passing : ℕ → Run → Bool
 passing place r = ltb place r.end
+
+-- that something was found
+pub was_found : {X : Type 0} (Q : X → Type 0) (o : Option X) → MatchOption o ⊥ Q → IsSome o
+was_found Q None h = absurd h
+was_found Q (Some x) h = refl
 
 later_none : (r : Run) → later_by 0 r ≡ r
 later_none r = ap (λ (n : ℕ). a_run n r.start r.end) (omega arith)

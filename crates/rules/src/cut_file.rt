@@ -22,9 +22,11 @@ fn write_records<R: Rule>(page: &Page<R>, buffer: &mut [u8]) -> usize
     ensures size { result ≡ file_size (R.run page.now.rule.now) page.now.text.now }
     ensures bytes { buffer.new ≡ over (cut_file (R.run page.now.rule.now) page.now.text.now) buffer.old }
 {
+    // a counter beside the runs: it is the answer as well, which neither `4 * run.number` nor chunks of the buffer would give
     let mut filled = 0;
     for run in page.runs() {
-        // `as`: there is no From from usize to u16, and that nothing is lost is proved
+        // `as`: there is no From from usize to u16, and that nothing is lost is proved, so that `try_from` with an arm that
+        // cannot come is no plainer
         write_record(buffer, filled, run.start as u16, run.end as u16);
         filled += 4;
     }

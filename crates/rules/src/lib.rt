@@ -11,7 +11,7 @@ mod walk;
 mod walls;
 
 pub use cut_file::write_cut_file;
-pub use limits::{LIMIT, check_length, check_place};
+pub use limits::{LIMIT, check_inside, check_length, check_place};
 pub use lines::Line;
 pub use page::Page;
 pub use rule::Rule;

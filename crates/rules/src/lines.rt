@@ -21,6 +21,7 @@ impl Rule for Line {
 
     fn end(&self, text: &[u8], place: usize) -> Result<usize, Refusal> {
         check_place(text, place)?;
+        // `map_or` was tried: the proof did not close, since what its closure gives is not known outside it
         match text[place..].iter().position(|byte| *byte == b'\r') {
             Some(before) => Ok(place + before + 1),
             None => Ok(text.len()),

@@ -34,13 +34,10 @@ impl<'a, R: Rule> Page<'a, R> {
         ensures some { place < result }
         ensures within { result ≤ length self.now.text.now }
     {
-        let Ok(end) = self.rule.end(self.text, place) else {
-            return unreachable();
-        };
-        end
+        self.rule.end(self.text, place).unwrap()
     }
 
-    // it reads as `run_end` does, but for the call of the rule that it makes
+    // alike to `run_end`: each is one call of the rule, unwrapped
     /// Whether a wall stands at a place.
     #[tactic(auto, using(crate::proofs::Lawful::wall_joined))]
     pub fn is_wall(&self, place: usize) -> bool
@@ -48,9 +45,6 @@ impl<'a, R: Rule> Page<'a, R> {
         ensures value { result ≡ wall_at (R.parts self.now.rule.now) self.now.text.now place }
         ensures joined { result ≡ true → Joined (R.run self.now.rule.now) (take place self.now.text.now) (drop place self.now.text.now) }
     {
-        let Ok(wall) = self.rule.wall(self.text, place) else {
-            return unreachable();
-        };
-        wall
+        self.rule.wall(self.text, place).unwrap()
     }
 }

@@ -86,10 +86,7 @@ impl<'a, R: Rule> Page<'a, R> {
         ensures end { (place < result.end) × (result.end ≤ length self.now.text.now) }
         ensures few { result.number + from ≤ result.start }
     {
-        match self.runs_from(from).find(|run| place < run.end) {
-            Some(run) => run,
-            None => unreachable(),
-        }
+        self.runs_from(from).find(|run| place < run.end).unwrap()
     }
 
     /// The run that so many runs from `from` on come before, where there is one.

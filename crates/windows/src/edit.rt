@@ -13,7 +13,8 @@ pub struct Edit {
     pub byte: u8,
 }
 
-// Rule and text stay parameters: a struct with a `&mut` text is no plainer, since each method would promise that nothing in it changed.
+// rule and text stay parameters: a struct with a `&mut` text is no plainer, since each method would promise that nothing in it
+// changed
 impl Edit {
     // What the rule answers about a wall in the text as the edit would leave it. The text is given back as it was, on a
     // refusal too.
@@ -23,8 +24,7 @@ impl Edit {
         ensures value { result ≡ wall_of (R.parts rule.now) (edited self text.old) at }
     {
         let trial = Trial::begin(text, self);
-        let wall = rule.wall(trial.view(), at)?;
-        Ok(wall)
+        rule.wall(trial.view(), at)
     }
 
     // Whether a wall of both texts, with the old byte and with the new one, stands at a place.
@@ -37,9 +37,6 @@ impl Edit {
         if !before.is_wall(at) {
             return false;
         }
-        let Ok(wall) = self.wall_after(rule, text, at) else {
-            return unreachable();
-        };
-        wall
+        self.wall_after(rule, text, at).unwrap()
     }
 }

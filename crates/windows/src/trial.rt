@@ -3,6 +3,7 @@ ghost use Rattle.windows.specs.Windows.{edited};
 
 use crate::edit::Edit;
 
+// the text, the place and the old byte, as the project's form for the guard says (docs/DECISIONS.md, "Forms")
 /// A byte of a text changed for a time: letting go of it puts the old byte back.
 pub struct Trial<'a> {
     text: &'a mut [u8],

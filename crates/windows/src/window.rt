@@ -24,7 +24,8 @@ impl Edit {
         ensures value { result ≡ window_begin (R.parts rule.now) text.old (edited self text.old) self.place }
         ensures within { result ≤ self.place }
     {
-        // a loop, since the closure of a chain would change what it captures, the text
+        // a loop, here and below, since the closure of a chain would change what it captures, the text. One function over the
+        // places, for both searches, was tried: its clauses say what each step of any iterator gives, and are longer than both
         for from in (1..=self.place).rev() {
             if self.is_wall_of_both(rule, text, from) {
                 return from;
@@ -76,7 +77,8 @@ impl Edit {
         Window {
             from,
             to,
-            // `as`: there is no From from usize to i32, and that nothing is lost is proved
+            // `as`: there is no From from usize to i32, and that nothing is lost is proved, so that `try_from` with an arm
+            // that cannot come is no plainer
             difference: new as i32 - old as i32,
         }
     }

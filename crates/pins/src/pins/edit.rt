@@ -3,14 +3,11 @@ ghost use Rattle.std.specs.List.{insert as inserted, remove};
 ghost use Rattle.pins.specs.Order.{rising, insert, without, pin_at, IsInside};
 ghost use Rattle.pins.specs.Kept.{kept};
 
-use super::Pins;
+use super::{MOST, Pins};
 use crate::pin::Pin;
 
-/// The most pins that are kept.
-const MOST: usize = 64;
-
 // The first entries with one more, put in before the k-th.
-fn put_in(mut entries: [Pin; 64], count: usize, k: usize, pin: Pin) -> [Pin; 64]
+fn put_in(mut entries: [Pin; MOST], count: usize, k: usize, pin: Pin) -> [Pin; MOST]
     requires { (count < 64) × (k ≤ count) }
     ensures { take (count + 1) result ≡ inserted (take count entries) k pin }
 {
@@ -20,7 +17,7 @@ fn put_in(mut entries: [Pin; 64], count: usize, k: usize, pin: Pin) -> [Pin; 64]
 }
 
 // The first entries without the k-th.
-fn take_out(mut entries: [Pin; 64], count: usize, k: usize) -> [Pin; 64]
+fn take_out(mut entries: [Pin; MOST], count: usize, k: usize) -> [Pin; MOST]
     requires { (count ≤ 64) × (k < count) }
     ensures { take (count - 1) result ≡ remove (take count entries) k }
 {
@@ -37,7 +34,7 @@ impl Pins {
     {
         Pins {
             size,
-            entries: [Pin::default(); 64],
+            entries: [Pin::default(); MOST],
             count: 0,
         }
     }
@@ -54,6 +51,7 @@ impl Pins {
             return None;
         }
         let entries = put_in(self.entries, self.count, k, pin);
+        // every field is named, here and below: `..self` is not to be had beside ghost fields
         Some(Pins {
             size: self.size,
             entries,

@@ -50,25 +50,21 @@ impl Pins {
         ensures value { result ≡ pin_at place (kept self.now) }
         ensures inside { IfSome result (IsInside self.now.size) }
     {
-        match self.spot(place) {
-            Ok(k) => self.get(k),
-            Err(_) => None,
-        }
+        let k = self.spot(place).ok()?;
+        self.get(k)
     }
 
-    // the next two stay two: one function over a closure would say by the closure what they say in words
     /// The nearest pin that is not above a place.
     pub fn nearest(&self, place: usize) -> Option<Pin>
         ensures value { result ≡ last_by (up_to place) (kept self.now) }
         ensures inside { IfSome result (λ p. IsInside self.now.size p × (p.place ≤ place)) }
     {
-        self.as_slice()
-            .iter()
-            .rev()
-            .find(|pin| pin.place <= place)
-            .copied()
+        let pins = self.as_slice();
+        let above = pins.partition_point(|pin| pin.place <= place);
+        pins[..above].last().copied()
     }
 
+    // from the end, one by one, where `nearest` searches: the type says that places rise, and of numbers it does not
     /// The last pin whose number is not above a number.
     pub fn nearest_numbered(&self, number: usize) -> Option<Pin>
         ensures value { result ≡ last_by (numbered_up_to number) (kept self.now) }
