@@ -23,6 +23,7 @@ impl fmt::Display for Change {
     }
 }
 
+// an arm for each kind's refusal: a function for any line or the refusal is no plainer, since a number alone has another line
 /// The line of what is answered, or of the refusal.
 impl fmt::Display for Answer {
     ghost output = { λ a. Some (answer_line a) };

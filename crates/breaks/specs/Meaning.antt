@@ -29,7 +29,7 @@ abbrev pub table_parts : List ℕ → (ℕ → ℕ → Bool) → List ℕ → Li
 table_parts b sure before after = parted sure (length before) (characters b (before ++ after))
 
 abbrev pub parts_of : TableRule → List ℕ → List ℕ → Bool
-parts_of r = table_parts (bytes_of r.table) (holds r.table.sure.rows)
+parts_of r = table_parts (bytes_of r.table) (holds r.table.judgement.sure.rows)
 
 -- the first of some characters, as it is told
 abbrev pub first_of : List Char → Character

@@ -99,7 +99,7 @@ module _ (t : Table) where
   b = bytes_of t
 
   abbrev sure : ℕ → ℕ → Bool
-  sure = holds t.sure.rows
+  sure = holds t.judgement.sure.rows
 
   abbrev run : List ℕ → ℕ
   run = table_run (bytes_of t)

@@ -5,6 +5,7 @@ ghost use Rattle.breaks.specs.Places.{leads_before};
 ghost use Rattle.finds.specs.Finds.{backward_from, scan_leads, begin};
 
 use breaks::characters::Characters;
+use breaks::characters::read::start_in_stretch;
 
 // Where the first bytes begin that stand in a row straight before the byte at `at - 1`. The start of the stretch read last
 // is still theirs where it lies below `at`, so that the characters of a stretch read it once.
@@ -30,14 +31,14 @@ fn scan_back(characters: &Characters, place: usize) -> usize
 {
     let backward = characters.table.backward();
     let mut at = place + 1;
-    // No stretch is read yet: one that begins at `at` counts as none.
-    let mut stretch = at;
+    let mut stretch = characters.stretch_start(place);
     let mut mark = 0;
     let mut state = 1;
-    // each step is as long as the character read: an iterator for this loop alone would keep the same places
+    // a loop: each step is as long as the character read. It reads as the forward scan of `breaks` but for the way it goes and what
+    // it answers at the end: a step for both would hand state and mark back and forth, and is no plainer
     while at > 0 {
         stretch = stretch_before(characters, at, stretch);
-        let start = at - 1 - (at - 1 - stretch) % 2;
+        let start = start_in_stretch(at - 1, stretch);
         let here = characters.at(start);
         let code = backward.code(state, here.class);
         if code.marks() {

@@ -1,5 +1,5 @@
 -- What a header that passes says.
-use Rattle.std.proofs.Common.{◌≡◌, ℕ, ◌+◌, ◌≤◌, true, List, length, inl, inr}
+use Rattle.std.proofs.Common.{◌≡◌, ℕ, ◌+◌, ◌≤◌, true, List, length, inl, inr, arith}
 use Rattle.std.proofs.lemmas.Bool.{leb-true, or_cases, not-true, both_ways}
 use Rattle.refusals.specs.declared.Direction.{Direction}
 use Rattle.refusals.specs.declared.Direction.TheVariants.{Forward, Backward}
@@ -37,3 +37,11 @@ head b p =
 pub state_table_in : (b : List ℕ) (d : Direction) → Head b → state_table b d + 6 ≤ size b
 state_table_in b Forward h = h.forward_in
 state_table_in b Backward h = h.backward_in
+
+-- a state table's list has its first three words
+pub state_part_room : (b : List ℕ) (d : Direction) → Passes (header_checks b) → state_table b d + 6 ≤ length b
+state_part_room b d p =
+    let h = head b p in
+    let inside = state_table_in b d h in
+    let whole = h.size_high in
+    omega arith

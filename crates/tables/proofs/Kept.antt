@@ -14,5 +14,5 @@ pub table_length : (t : Table) → vec_len t.bytes ≡ length (bytes_of t)
 table_length t = t.bytes.ok.0
 
 -- the bits of its pairs tell which are sure
-pub table_tells : (t : Table) → Tells (bytes_of t) (holds t.sure.rows)
+pub table_tells : (t : Table) → Tells (bytes_of t) (holds t.judgement.sure.rows)
 table_tells t c d l m = (λ h r w. t.sound c d r (l, m, h, w), λ s. t.complete c d (l, m, s))

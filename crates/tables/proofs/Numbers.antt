@@ -51,3 +51,11 @@ ge0_whole (negsuc n) f = ap (le_z (pos 0)) (to_z-of_z w16 (negsuc n) f)
 -- a place that fits comes back from its bits
 pub place_bits : (n : ℕ) → n < 2147483648 → to_z w32 n ≡ pos n
 place_bits n h = omega (arith, ints)
+
+-- whether a word is one number, as the code asks
+pub exactly : (w z : ℤ) (m n : ℕ) → SFits w16 w → w ≡ z → m ≡ n → within (to_z w16 (of_z w16 w)) m m ≡ within z n n
+exactly w z m n f e q = ap (λ (y : ℤ). within y m m) (to_z-of_z w16 w f ∙ e) ∙ ap (λ (k : ℕ). within z k k) q
+
+-- a word without its sign, as the code reads it
+pub absolute : (w z : ℤ) → SFits w16 w → w ≡ z → nat_abs (to_z w16 (of_z w16 w)) ≡ nat_abs z
+absolute w z f e = ap nat_abs (to_z-of_z w16 w f ∙ e)

@@ -50,15 +50,15 @@ module _ (t : Table) (code : ℕ → ℕ → ℕ) (C : ℕ) (is : code ≡ machi
   least : 1 ≤ classes (bytes_of t)
   least = classes_low (bytes_of t) (list_passes (bytes_of t) (table_passes t) Forward)
 
-  same : (c d : ℕ) → c < classes (bytes_of t) → d < classes (bytes_of t) → holds t.sure.rows c d ≡ sure c d
+  same : (c d : ℕ) → c < classes (bytes_of t) → d < classes (bytes_of t) → holds t.judgement.sure.rows c d ≡ sure c d
   same c d l m = same_from_decides _ _ (table_tells t c d l m) (tells c d l m)
 
-  pub by_test : Unsteady code C (holds t.sure.rows) k → UnsteadyAt (bytes_of t) sure k
+  pub by_test : Unsteady code C (holds t.judgement.sure.rows) k → UnsteadyAt (bytes_of t) sure k
   by_test u =
-      let on = subst (λ (n : ℕ). Unsteady (machine (bytes_of t) Backward) n (holds t.sure.rows) k) are (subst (λ (f : ℕ → ℕ → ℕ). Unsteady f C (holds t.sure.rows) k) is u) in
-      unsteady_same (machine (bytes_of t) Backward) (classes (bytes_of t)) (holds t.sure.rows) sure least same k on
+      let on = subst (λ (n : ℕ). Unsteady (machine (bytes_of t) Backward) n (holds t.judgement.sure.rows) k) are (subst (λ (f : ℕ → ℕ → ℕ). Unsteady f C (holds t.judgement.sure.rows) k) is u) in
+      unsteady_same (machine (bytes_of t) Backward) (classes (bytes_of t)) (holds t.judgement.sure.rows) sure least same k on
 
-  pub by_bits : UnsteadyAt (bytes_of t) sure k → Unsteady code C (holds t.sure.rows) k
+  pub by_bits : UnsteadyAt (bytes_of t) sure k → Unsteady code C (holds t.judgement.sure.rows) k
   by_bits u =
-      let on = unsteady_same (machine (bytes_of t) Backward) (classes (bytes_of t)) sure (holds t.sure.rows) least (λ c d l m. sym (same c d l m)) k u in
-      subst (λ (f : ℕ → ℕ → ℕ). Unsteady f C (holds t.sure.rows) k) (sym is) (subst (λ (n : ℕ). Unsteady (machine (bytes_of t) Backward) n (holds t.sure.rows) k) (sym are) on)
+      let on = unsteady_same (machine (bytes_of t) Backward) (classes (bytes_of t)) sure (holds t.judgement.sure.rows) least (λ c d l m. sym (same c d l m)) k u in
+      subst (λ (f : ℕ → ℕ → ℕ). Unsteady f C (holds t.judgement.sure.rows) k) (sym is) (subst (λ (n : ℕ). Unsteady (machine (bytes_of t) Backward) n (holds t.judgement.sure.rows) k) (sym are) on)

@@ -1,17 +1,15 @@
 -- What the lists and the codes of a table that passes its checks say.
-use Rattle.std.proofs.Common.{◌≡◌, ℕ, ◌+◌, ◌-◌, ◌<◌, ◌≤◌, true, List, ◌++◌, length, get_or, drop, sym, ap, ◌∙◌, subst, arith}
+use Rattle.std.proofs.Common.{◌≡◌, ℕ, ◌+◌, ◌<◌, ◌≤◌, true, List, ◌++◌, length, get_or, drop, sym, ap, ◌∙◌, subst, arith}
 use Rattle.std.proofs.lemmas.List.{get_or-take, get_or-drop}
 use Rattle.std.proofs.lemmas.Bool.{leb-true, ltb-true, and_parts}
 use Rattle.refusals.specs.declared.Direction.{Direction}
 use Rattle.refusals.specs.declared.Direction.TheVariants.{Forward, Backward}
 use Rattle.refusals.specs.declared.Refusal.TheVariants.{CodeWrong, ClassWrong}
-use Rattle.automata.specs.Machine.{index, next}
-use Rattle.tables.specs.Layout.{size, class_table, list_word, states, classes, codes, machine, code_place, code_count}
+use Rattle.automata.specs.Machine.{next}
+use Rattle.tables.specs.Layout.{size, class_table, list_word, states, classes, codes, code_place, code_count}
 use Rattle.tables.specs.Classes.{entry, entry_sound}
 use Rattle.tables.specs.Checks.{Check, Passes, checks, header_checks, list_checks, class_checks, code_checks, code_sound}
-use Rattle.std.proofs.lemmas.Nat.{mul-add-lt}
 use Rattle.tables.proofs.Numbers.{within_low, within_high}
-use Rattle.tables.proofs.Heads.{head}
 use Rattle.tables.proofs.Passing.{all_pass, left_passes, right_passes, passes_each}
 
 pub record Listed (b : List ℕ) (d : Direction) : Type 0 where
@@ -99,20 +97,9 @@ module _ (b : List ℕ) (p : Passes (checks b)) where
       passes_each (λ k. (code_sound (states b d) (get_or b (code_place b d k) 0), CodeWrong d (code_place b d k))) 0 (code_count b d) (code_passes d) k (omega arith) (omega arith) in
       subst (λ (x : ℕ). next x < states b d) (sym (code_there d k h)) (ltb-true _ _ (and_parts _ _ sound).1)
 
-  -- the code of a state and a class, at its place
-  module _ (d : Direction) (s c : ℕ) (lo : 1 ≤ s) (hi : s < states b d) (l : c < classes b) where
-    pub index_in : index (classes b) s c < code_count b d
-    index_in = omega (arith, mul-add-lt (s - 1) (classes b) c (states b d - 1) (omega arith) l)
-
-    pub code_in : code_place b d (index (classes b) s c) < length b
-    code_in =
-        let i = index_in in
-        let rows = (listed b d (list_passes d)).rows_in in
-        let whole = (head b header_passes).size_high in
-        omega arith
-
-    pub code_value : machine b d s c ≡ get_or b (code_place b d (index (classes b) s c)) 0
-    code_value = code_there d (index (classes b) s c) index_in
-
-    pub code_below : next (machine b d s c) < states b d
-    code_below = codes_named d (index (classes b) s c) index_in
+-- the codes that are handed to a state table name states that are there
+pub named : (b : List ℕ) (d : Direction) (row : List ℕ) (S : ℕ) → Passes (checks b) → row ≡ codes b d → length row ≡ code_count b d → S ≡ states b d
+    → (k : ℕ) → k < length row → next (get_or row k 0) < S
+named b d row S p e n s k h =
+    subst (λ (m : ℕ). next (get_or row k 0) < m) (sym s)
+    (subst (λ (l : List ℕ). next (get_or l k 0) < states b d) (sym e) (codes_named b p d k (omega arith)))

@@ -8,3 +8,4 @@ pub mod Steady
 pub mod Laid
 pub mod Meaning
 pub mod Lines
+pub mod Fields

@@ -1,8 +1,12 @@
-ghost use Rattle.std.specs.Prelude.{◌≡◌, ℕ, ◌≤◌, not, ◌||◌, length};
+ghost use Rattle.std.specs.Prelude.{◌≡◌, ℕ, ◌+◌, ◌≤◌, true, false, not, ◌||◌, length, is_some, IfSome, MatchResult, unsigned_abs};
+ghost use Rattle.refusals.specs.declared.Refusal.TheVariants.{OffsetOutside};
 ghost use Rattle.tables.specs.Words.{word};
-ghost use Rattle.tables.specs.Layout.{size, fits, two_byte};
+ghost use Rattle.tables.specs.Layout.{size, fits, two_byte, backup};
+ghost use Rattle.tables.specs.Fields.{place_of};
 
+use crate::field::Field;
 use crate::words::{magnitude, word};
+use refusals::Refusal;
 
 /// Bytes that have room for a table's header.
 #[derive(Clone, Copy)]
@@ -20,22 +24,42 @@ impl<'a> Head<'a> {
         Head { bytes }
     }
 
+    /// The word in a field.
+    pub fn word(&self, field: Field) -> i16
+        ensures { result ≡ word self.now.bytes.now (place_of field) }
+    {
+        word(self.bytes, field.place())
+    }
+
     /// How many bytes the table has, as its header says.
     pub fn size(&self) -> usize
         ensures { result ≡ size self.now.bytes.now }
     {
-        magnitude(word(self.bytes, 14))
+        magnitude(self.word(Field::Length))
     }
 
-    /// Whether so many bytes from a place on lie inside the table; the place may be before it.
-    pub fn fits(&self, place: i32, need: usize) -> bool
-        requires { need ≤ 256 }
+    /// doBackup, or 0 where that is negative.
+    pub fn backup(&self) -> usize
+        ensures { result ≡ backup self.now.bytes.now }
+    {
+        usize::try_from(self.word(Field::Backup)).unwrap_or(0)
+    }
+
+    /// A place, which may be before the table, if so many bytes from it on lie inside the table.
+    pub fn inside(&self, place: i32, need: u16) -> Option<usize>
+        ensures fits { is_some result ≡ fits self.now.bytes.now place need }
+        ensures place { IfSome result (λ at. at ≡ unsigned_abs place) }
+        ensures low { IfSome result (λ at. at ≤ 2147483647) }
+    {
+        let at = usize::try_from(place).ok()?;
+        (at + usize::from(need) <= self.size()).then_some(at)
+    }
+
+    /// Whether so many bytes from a place on lie inside the table.
+    pub fn fits(&self, place: i32, need: u16) -> bool
         ensures { result ≡ fits self.now.bytes.now place need }
     {
-        match usize::try_from(place) {
-            Ok(at) => at + need <= self.size(),
-            Err(_) => false,
-        }
+        self.inside(place, need).is_some()
     }
 
     /// Whether the table is for two-byte text.
@@ -45,18 +69,25 @@ impl<'a> Head<'a> {
         self.bytes[1] != 0
     }
 
-    /// Whether the part at the offset in a header field lies inside the table.
-    pub fn offset_fits(&self, field: usize, need: usize) -> bool
-        requires { (field ≤ 14) × (need ≤ 256) }
-        ensures { result ≡ fits self.now.bytes.now (word self.now.bytes.now field) need }
+    /// Refuses a field by whose offset not so many bytes lie inside the table.
+    pub fn check_offset(&self, field: Field, need: u16) -> Result<(), Refusal>
+        ensures { MatchResult result (λ _. fits self.now.bytes.now (word self.now.bytes.now (place_of field)) need ≡ true) (λ e. (fits self.now.bytes.now (word self.now.bytes.now (place_of field)) need ≡ false) × (e ≡ OffsetOutside (place_of field))) }
     {
-        self.fits(i32::from(word(self.bytes, field)), need)
+        if self.fits(i32::from(self.word(field)), need) {
+            Ok(())
+        } else {
+            Err(Refusal::OffsetOutside(field.place()))
+        }
     }
 
-    /// Whether the auxiliary table, where one is looked at, has a first word inside the table.
-    pub fn auxiliary_fits(&self) -> bool
-        ensures { result ≡ (not (two_byte self.now.bytes.now) || fits self.now.bytes.now (word self.now.bytes.now 6) 2) }
+    /// Refuses a table for two-byte text whose auxiliary table has no first word inside the table.
+    pub fn check_auxiliary(&self) -> Result<(), Refusal>
+        ensures { MatchResult result (λ _. (not (two_byte self.now.bytes.now) || fits self.now.bytes.now (word self.now.bytes.now 6) 2) ≡ true) (λ e. ((not (two_byte self.now.bytes.now) || fits self.now.bytes.now (word self.now.bytes.now 6) 2) ≡ false) × (e ≡ OffsetOutside 6)) }
     {
-        !self.is_two_byte() || self.offset_fits(6, 2)
+        if self.is_two_byte() {
+            self.check_offset(Field::Auxiliary, 2)
+        } else {
+            Ok(())
+        }
     }
 }

@@ -1,9 +1,11 @@
-ghost use Rattle.std.specs.Prelude.{◌≡◌, ℕ, ◌+◌, ◌<◌, ◌≤◌, true, false, length, IfSome, MatchOption, unsigned_abs};
+ghost use Rattle.std.specs.Prelude.{◌≡◌, ℕ, ◌+◌, ◌<◌, ◌≤◌, true, length, is_some, IfSome, unsigned_abs};
 ghost use Rattle.tables.specs.Layout.{fits, two_byte, auxiliary};
 ghost use Rattle.tables.specs.Classes.{own_place, row_start, odd_sound, even_sound, odd_class, even_class};
 ghost use Rattle.tables.specs.Checks.{Passes, checks};
 
+use crate::field::Field;
 use crate::parts::Parts;
+use crate::words::magnitude;
 
 /// The entry -k of a first byte, in a table for two-byte text.
 #[derive(Clone, Copy)]
@@ -31,7 +33,7 @@ impl<'a> Lead<'a> {
         ensures bound { result + 2 ≤ length self.now.parts.bytes.now }
         ensures low { result ≤ 32768 }
     {
-        self.parts.magnitude(6)
+        self.parts.offset(Field::Auxiliary)
     }
 
     // Where the class of an odd entry stands in the first-byte class table.
@@ -40,7 +42,7 @@ impl<'a> Lead<'a> {
         ensures low { result ≤ 66000 }
     {
         let at = self.auxiliary_place();
-        at + self.parts.magnitude(at) + (self.k - 1)
+        at + magnitude(self.parts.word(at)) + (self.k - 1)
     }
 
     // Where the row table of an even entry would begin, which may be before the table.
@@ -49,22 +51,19 @@ impl<'a> Lead<'a> {
         ensures { result ≡ row_start self.now.parts.bytes.now self.now.k }
     {
         let at = self.auxiliary_place();
-        // here and below `as`: there is no From between usize and i32, and that nothing is lost is proved
+        // `as`, here and below: there is no From from usize to i32, and that nothing is lost is proved, so that `try_from` with
+        // an arm that cannot come is no plainer
         at as i32 + i32::from(self.parts.word(at + self.k))
     }
 
     // Where the row table of an even entry begins, if it lies inside the table.
     fn row_place(&self) -> Option<usize>
         requires { auxiliary self.now.parts.bytes.now + self.now.k + 2 ≤ length self.now.parts.bytes.now }
-        ensures place { MatchOption result (fits self.now.parts.bytes.now (row_start self.now.parts.bytes.now self.now.k) 256 ≡ false) (λ at. (fits self.now.parts.bytes.now (row_start self.now.parts.bytes.now self.now.k) 256 ≡ true) × (at ≡ unsigned_abs (row_start self.now.parts.bytes.now self.now.k)) × (at + 256 ≤ length self.now.parts.bytes.now)) }
-        ensures low { IfSome result (λ at. at < 2147483648) }
+        ensures fits { is_some result ≡ fits self.now.parts.bytes.now (row_start self.now.parts.bytes.now self.now.k) 256 }
+        ensures place { IfSome result (λ at. (at ≡ unsigned_abs (row_start self.now.parts.bytes.now self.now.k)) × (at + 256 ≤ length self.now.parts.bytes.now)) }
+        ensures low { IfSome result (λ at. at ≤ 2147483647) }
     {
-        let start = self.signed_row_place();
-        if self.parts.head().fits(start, 256) {
-            Some(start as usize)
-        } else {
-            None
-        }
+        self.parts.head().inside(self.signed_row_place(), 256)
     }
 
     /// Whether the class under an odd entry is sound.
@@ -87,10 +86,11 @@ impl<'a> Lead<'a> {
         if !self.parts.head().fits(word as i32, 2) {
             return false;
         }
-        match self.row_place() {
-            Some(at) => self.parts.row_is_sound(at),
-            None => false,
-        }
+        // `is_some_and` was tried: the proof did not close, since what `row_is_sound` says inside its closure is not known outside
+        let Some(at) = self.row_place() else {
+            return false;
+        };
+        self.parts.row_is_sound(at)
     }
 
     /// The class of a two-byte character whose first byte has an odd entry.
@@ -98,11 +98,13 @@ impl<'a> Lead<'a> {
         requires { (Passes (checks self.now.parts.bytes.now)) × (odd_sound self.now.parts.bytes.now self.now.k ≡ true) }
         ensures { result ≡ unsigned_abs (odd_class self.now.parts.bytes.now self.now.k) }
     {
-        let shared = self.auxiliary_place();
-        if self.parts.word(shared) >= 0 {
-            self.parts.magnitude(shared)
+        // the word is chosen as in `odd_is_sound`, but need not be looked for inside the table: one function for both would give
+        // an option, to be unwrapped here, and is no plainer
+        let shared = self.parts.word(self.auxiliary_place());
+        if shared >= 0 {
+            magnitude(shared)
         } else {
-            self.parts.magnitude(self.own_class_place())
+            magnitude(self.parts.word(self.own_class_place()))
         }
     }
 
@@ -111,9 +113,7 @@ impl<'a> Lead<'a> {
         requires { (Passes (checks self.now.parts.bytes.now)) × (even_sound self.now.parts.bytes.now self.now.k ≡ true) }
         ensures { result ≡ unsigned_abs (even_class self.now.parts.bytes.now self.now.k second) }
     {
-        let Some(at) = self.row_place() else {
-            return unreachable();
-        };
+        let at = self.row_place().unwrap();
         usize::from(self.parts.byte(at + usize::from(second)))
     }
 }

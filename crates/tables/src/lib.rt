@@ -2,6 +2,7 @@
 #![tactic(auto)]
 
 mod entry;
+mod field;
 mod head;
 mod layout;
 mod lead;

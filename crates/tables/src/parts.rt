@@ -1,8 +1,7 @@
 mod classes;
-mod codes;
 mod header;
-mod lists;
 mod places;
+pub mod state_part;
 
 ghost use Rattle.tables.specs.Checks.{Passes, header_checks};
 

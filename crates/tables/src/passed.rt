@@ -6,6 +6,7 @@ ghost use Rattle.tables.specs.Laid.{Laid};
 
 use crate::layout::Layout;
 use crate::parts::Parts;
+use crate::parts::state_part::StatePart;
 use automata::state_table::StateTable;
 use refusals::{Direction, Refusal};
 
@@ -31,11 +32,13 @@ impl<'a> Passed<'a> {
         ensures same { IfOk result (λ p. p.bytes.now ≡ bytes.now) }
     {
         let parts = Parts::check(bytes)?;
-        parts.check_list(Direction::Forward)?;
-        parts.check_list(Direction::Backward)?;
+        let forward = parts.state_part(Direction::Forward);
+        let backward = parts.state_part(Direction::Backward);
+        forward.check_list()?;
+        backward.check_list()?;
         parts.check_classes()?;
-        parts.check_codes(Direction::Forward)?;
-        parts.check_codes(Direction::Backward)?;
+        forward.check_codes()?;
+        backward.check_codes()?;
         Ok(Passed { bytes })
     }
 
@@ -46,18 +49,22 @@ impl<'a> Passed<'a> {
         Parts::new(self.bytes)
     }
 
+    /// The part that is one of its state tables.
+    pub fn state_part(&self, direction: Direction) -> StatePart<'a>
+        ensures parts { result.parts.bytes.now ≡ self.now.bytes.now }
+        ensures direction { result.direction ≡ direction }
+    {
+        self.parts().state_part(direction)
+    }
+
     /// One of its state tables.
     pub fn machine(&self, direction: Direction) -> StateTable<'a>
         ensures machine { code_of result ≡ machine self.now.bytes.now direction }
         ensures states { result.states ≡ states self.now.bytes.now direction }
         ensures classes { result.classes ≡ classes self.now.bytes.now }
     {
-        let parts = self.parts();
-        StateTable::new(
-            parts.code_rows(direction),
-            parts.state_count(direction),
-            parts.class_count(),
-        )
+        let part = self.state_part(direction);
+        StateTable::new(part.codes(), part.state_count(), self.parts().class_count())
     }
 
     /// Its layout.
@@ -65,10 +72,10 @@ impl<'a> Passed<'a> {
         ensures { Laid self.now.bytes.now result }
     {
         let parts = self.parts();
+        let forward = self.state_part(Direction::Forward);
         Layout {
             class_place: parts.class_table_place(),
-            code_start: parts.first_code_place(Direction::Forward),
-            state_total: parts.state_count(Direction::Forward),
+            state_total: forward.state_count(),
             class_total: parts.class_count(),
         }
     }

@@ -1,6 +1,7 @@
 pub mod judge;
 
-ghost use Rattle.std.specs.Prelude.{Some};
+ghost use Rattle.std.specs.Prelude.{◌≡◌, Some};
+ghost use Rattle.automata.specs.Sure.{holds, count_pairs};
 ghost use Rattle.tables.specs.Lines.{summary_line};
 
 use crate::layout::Layout;
@@ -23,6 +24,21 @@ pub struct Summary {
 pub struct Judgement {
     pub sure: SurePairs,
     pub layout: Layout,
+}
+
+impl Judgement {
+    /// What is told of the table.
+    pub fn summary(&self) -> Summary
+        ensures states { result.states ≡ self.now.layout.state_total }
+        ensures classes { result.classes ≡ self.now.layout.class_total }
+        ensures sure { result.sure ≡ count_pairs (holds self.now.sure.rows) 128 128 }
+    {
+        Summary {
+            states: self.layout.state_total,
+            classes: self.layout.class_total,
+            sure: self.sure.count(),
+        }
+    }
 }
 
 /// The line `states S classes C sure K`.

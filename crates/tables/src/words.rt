@@ -21,7 +21,7 @@ pub fn magnitude(word: i16) -> usize
 pub fn is_within(word: i16, low: usize, high: usize) -> bool
     ensures { result ≡ within word low high }
 {
-    usize::try_from(word).is_ok_and(|n| low <= n && n <= high)
+    usize::try_from(word).is_ok_and(|n| (low..=high).contains(&n))
 }
 
 /// The value of a byte, signed.

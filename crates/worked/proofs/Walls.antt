@@ -32,8 +32,8 @@ own_parts t test tells =
     let b = bytes_of t in
     let p = table_passes t in
     fun_ext (λ xs. fun_ext (λ ys.
-    parted_same (holds t.sure.rows) test (classes b)
-    (λ c d l m. same_from_decides (holds t.sure.rows c d) (test c d) (table_tells t c d l m) (tells c d l m))
+    parted_same (holds t.judgement.sure.rows) test (classes b)
+    (λ c d l m. same_from_decides (holds t.judgement.sure.rows c d) (test c d) (table_tells t c d l m) (tells c d l m))
     (length xs) (characters b (xs ++ ys))
     (fit (leads b) (one_class b) (two_class b) (classes b) (classes_low b (list_passes b p Forward)) (one_low b p) (two_low b p) (xs ++ ys))))
 

@@ -3,7 +3,7 @@
 
 ghost use Rattle.worked.specs.Cases.{WorkedCases};
 
-/// The worked cases hold.
+/// The worked cases hold. The number that is given means nothing: the promise is all.
 pub fn worked_cases() -> u8
     ensures { WorkedCases }
 {

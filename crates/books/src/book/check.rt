@@ -3,6 +3,7 @@ ghost use Rattle.books.specs.Strange.{LengthRefused, PlaceRefused};
 
 use super::Book;
 use refusals::Refusal;
+use rules::check_inside;
 
 impl<R> Book<R> {
     // Refuses a text that is not as long as the book's.
@@ -21,10 +22,6 @@ impl<R> Book<R> {
         ensures { MatchResult result (λ _. (length text.now ≡ self.now.pins.size) × (place < length text.now)) (PlaceRefused self.now.pins.size (length text.now) place) }
     {
         self.check_length(text)?;
-        if place < text.len() {
-            Ok(())
-        } else {
-            Err(Refusal::PlaceOutside(place))
-        }
+        check_inside(text, place)
     }
 }

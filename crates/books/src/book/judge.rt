@@ -17,7 +17,8 @@ fn moved_number(number: usize, by: i32, place: usize) -> usize
     ensures value { result ≡ held place (pos number +ℤ by) }
     ensures held { result ≤ place }
 {
-    // `as`: there is no From between usize and i64, and that nothing is lost is proved
+    // `as`: there is no From between usize and i64, and that nothing is lost is proved, so that `try_from` with an arm that
+    // cannot come is no plainer
     (number as i64 + i64::from(by)).clamp(0, place as i64) as usize
 }
 

@@ -5,7 +5,7 @@ ghost use Rattle.pins.specs.Kept.{kept};
 use super::Book;
 use pins::Pins;
 use refusals::Refusal;
-use rules::LIMIT;
+use rules::check_length;
 
 impl<R> Book<R> {
     /// A rule's book over the empty text.
@@ -24,9 +24,7 @@ impl<R> Book<R> {
         ensures rule { self.new.rule ≡ self.old.rule }
         ensures pins { MatchResult result (λ _. (length text.now ≤ 16383) × (self.new.pins.size ≡ length text.now) × (kept self.new.pins ≡ [])) (λ e. (16383 < length text.now) × (e ≡ TextTooLong (length text.now)) × (self.new.pins ≡ self.old.pins)) }
     {
-        if text.len() > LIMIT {
-            return Err(Refusal::TextTooLong(text.len()));
-        }
+        check_length(text)?;
         self.pins = Pins::none(text.len());
         Ok(())
     }

@@ -7,6 +7,7 @@ ghost use Rattle.books.specs.Faithful.{Faithful, Follows, plain_of, places_of, k
 ghost use Rattle.books.specs.Strange.{PinWithin, PinRefused, UnpinRefused};
 
 use super::Book;
+use super::read::run_over;
 use pins::Pin;
 use refusals::Refusal;
 use rules::{Page, Rule};
@@ -34,7 +35,7 @@ impl<R: Rule> Book<R> {
         }
         let pin = Pin {
             place: wall,
-            number: self.run_over(text, wall).number,
+            number: run_over(&page, &self.pins, wall).number,
         };
         self.pins = self.pins.with(pin).ok_or(Refusal::PinsFull)?;
         Ok(pin)

@@ -17,12 +17,10 @@ impl<R: Rule> Book<R> {
         ensures rule { self.new.rule ≡ self.old.rule }
         ensures long { length other.new ≡ length other.old }
     {
-        if let Some(n) = step.handed {
-            if usize::from(n) != text.len() {
-                return self.apply(&mut other[..usize::from(n)], step.call);
-            }
+        match step.handed.map(usize::from) {
+            Some(n) if n != text.len() => self.apply(&mut other[..n], step.call),
+            _ => self.apply(text, step.call),
         }
-        self.apply(text, step.call)
     }
 
     // Carries out every step, and gives the answers. All memory is taken first: want of it leaves text and book as they were.

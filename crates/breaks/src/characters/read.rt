@@ -1,4 +1,4 @@
-ghost use Rattle.std.specs.Prelude.{◌≡◌, ℕ, ◌+◌, ◌-◌, ◌<◌, ◌≤◌, ◌∷◌, length, take, drop};
+ghost use Rattle.std.specs.Prelude.{◌≡◌, ℕ, ◌+◌, ◌-◌, ◌%◌, ◌<◌, ◌≤◌, ◌∷◌, length, take, drop};
 ghost use Rattle.std.specs.List.{suffix_len};
 ghost use Rattle.tables.specs.Layout.{classes};
 ghost use Rattle.tables.specs.Meaning.{bytes_of};
@@ -11,6 +11,14 @@ use super::{Character, Characters};
 use refusals::Refusal;
 use rules::check_place;
 use tables::Table;
+
+/// Where the character begins that covers a place, by where the stretch of first bytes straight before the place begins.
+pub fn start_in_stretch(place: usize, stretch: usize) -> usize
+    requires { stretch ≤ place }
+    ensures { result ≡ place - (place - stretch) % 2 }
+{
+    place - (place - stretch) % 2
+}
 
 impl Characters<'_> {
     /// The character that begins at a place inside the text.
@@ -62,7 +70,7 @@ impl Characters<'_> {
         ensures value { result ≡ covering (leads (bytes_of self.now.table.now)) self.now.text.now place }
         ensures within { result ≤ place }
     {
-        place - (place - self.stretch_start(place)) % 2
+        start_in_stretch(place, self.stretch_start(place))
     }
 }
 

@@ -31,7 +31,7 @@ impl Rule for TableRule {
         let b = bytes_of t in
         let q = table_passes t in
         table_joins (leads b) (one_class b) (two_class b) (machine b Forward) (classes b) (classes_low b (list_passes b q Forward)) (one_low b q) (two_low b q) t.advances
-        (holds t.sure.rows) (λ x y l m h r d. t.sound x y r (l, m, h, d)) before after p };
+        (holds t.judgement.sure.rows) (λ x y l m h r d. t.sound x y r (l, m, h, d)) before after p };
 
     fn end(&self, text: &[u8], place: usize) -> Result<usize, Refusal> {
         check_place(text, place)?;
@@ -39,13 +39,15 @@ impl Rule for TableRule {
             table: &self.table,
             text,
         };
+        let forward = self.table.forward();
         let mut at = place;
         let mut mark = place;
         let mut state = 1;
-        // each step is as long as the character read: an iterator for this loop alone would keep the same place
+        // a loop: each step is as long as the character read, and what is kept of it are two numbers, so that an iterator with a
+        // scan of its own would be no plainer
         while at < text.len() {
             let here = characters.at(at);
-            let code = self.table.code(state, here.class);
+            let code = forward.code(state, here.class);
             if code.marks() {
                 mark = at;
             }

@@ -33,6 +33,7 @@ impl Parts<'_> {
         ensures { result ≡ entry_sound self.now.bytes.now (signed8 entry) }
     {
         match Entry::read(entry) {
+            // the byte and not the class just read: a class is tested as a signed number, since words have classes, too
             Entry::Class(_) => self.is_class(signed(entry)),
             Entry::Odd(k) => self.head().is_two_byte() && Lead::new(*self, k).odd_is_sound(),
             Entry::Even(k) => self.head().is_two_byte() && Lead::new(*self, k).even_is_sound(),
@@ -45,7 +46,7 @@ impl Parts<'_> {
     {
         let at = self.class_table_place();
         let entries = &self.bytes[at..at + 256];
-        // the counter beside the loop is asked for
+        // a `for` with a counter beside it, and no `enumerate`: the project's form for classes (docs/DECISIONS.md, "Forms")
         let mut value = 0;
         for entry in entries {
             if !self.entry_is_sound(*entry) {

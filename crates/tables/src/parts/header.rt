@@ -2,11 +2,12 @@ ghost use Rattle.std.specs.Prelude.{◌≡◌, IfOk};
 ghost use Rattle.tables.specs.Checks.{Checked, header_checks};
 
 use super::Parts;
+use crate::field::Field;
 use crate::head::Head;
-use crate::words::{is_within, word};
+use crate::words::is_within;
 use refusals::Refusal;
 
-/// The fewest bytes that a table has: the header and the class table.
+// The fewest bytes that a table has: the header and the class table.
 const LEAST: usize = 272;
 
 impl<'a> Parts<'a> {
@@ -18,26 +19,17 @@ impl<'a> Parts<'a> {
         if bytes.len() < LEAST {
             return Err(Refusal::TableTooShort);
         }
-        if !is_within(word(bytes, 14), LEAST, bytes.len()) {
+        let head = Head::new(bytes);
+        if !is_within(head.word(Field::Length), LEAST, bytes.len()) {
             return Err(Refusal::TableLength);
         }
         if bytes[0] < 128 {
             return Err(Refusal::TableFlags);
         }
-        let head = Head::new(bytes);
-        // in the order of the refusals; a loop over the three fields and what they need is no plainer
-        if !head.offset_fits(4, 256) {
-            return Err(Refusal::OffsetOutside(4));
-        }
-        if !head.offset_fits(10, 6) {
-            return Err(Refusal::OffsetOutside(10));
-        }
-        if !head.offset_fits(8, 6) {
-            return Err(Refusal::OffsetOutside(8));
-        }
-        if !head.auxiliary_fits() {
-            return Err(Refusal::OffsetOutside(6));
-        }
+        head.check_offset(Field::Classes, 256)?;
+        head.check_offset(Field::Forward, 6)?;
+        head.check_offset(Field::Backward, 6)?;
+        head.check_auxiliary()?;
         Ok(Parts { bytes })
     }
 }

@@ -1,9 +1,12 @@
-ghost use Rattle.std.specs.Prelude.{◌≡◌, ℕ, ◌+◌, ◌<◌, ◌≤◌, length, slice_index, unsigned_abs};
+ghost use Rattle.std.specs.Prelude.{◌≡◌, ℕ, ◌+◌, ◌<◌, ◌≤◌, length, slice_index};
 ghost use Rattle.tables.specs.Checks.{Passes, header_checks};
 ghost use Rattle.tables.specs.Words.{word};
-ghost use Rattle.tables.specs.Layout.{class_table, state_table, states, classes, code_place, code_count, codes};
+ghost use Rattle.tables.specs.Layout.{class_table, classes, offset};
+ghost use Rattle.tables.specs.Fields.{place_of};
 
 use super::Parts;
+use super::state_part::StatePart;
+use crate::field::Field;
 use crate::head::Head;
 use crate::words::{magnitude, word};
 use refusals::Direction;
@@ -40,13 +43,12 @@ impl<'a> Parts<'a> {
         word(self.bytes, at)
     }
 
-    /// The word at a place without its sign.
-    pub fn magnitude(&self, at: usize) -> usize
-        requires { at + 2 ≤ length self.now.bytes.now }
-        ensures value { result ≡ unsigned_abs (word self.now.bytes.now at) }
+    /// The offset in a field of the header.
+    pub fn offset(&self, field: Field) -> usize
+        ensures value { result ≡ offset self.now.bytes.now (place_of field) }
         ensures bound { result ≤ 32768 }
     {
-        magnitude(word(self.bytes, at))
+        magnitude(self.head().word(field))
     }
 
     /// Where the class table begins.
@@ -55,27 +57,19 @@ impl<'a> Parts<'a> {
         ensures bound { result + 256 ≤ length self.now.bytes.now }
         ensures low { result ≤ 32768 }
     {
-        self.magnitude(4)
+        self.offset(Field::Classes)
     }
 
-    /// Where a state table begins.
-    pub fn table_place(&self, direction: Direction) -> usize
-        ensures value { result ≡ state_table self.now.bytes.now direction }
-        ensures bound { result + 6 ≤ length self.now.bytes.now }
-        ensures low { result ≤ 32768 }
+    /// The part that is one of the two state tables.
+    #[tactic(auto, using(crate::proofs::Heads::state_part_room))]
+    pub fn state_part(&self, direction: Direction) -> StatePart<'a>
+        ensures parts { result.parts.bytes.now ≡ self.now.bytes.now }
+        ensures direction { result.direction ≡ direction }
     {
-        match direction {
-            Direction::Forward => self.magnitude(10),
-            Direction::Backward => self.magnitude(8),
+        StatePart {
+            parts: *self,
+            direction,
         }
-    }
-
-    /// How many states a state table has.
-    pub fn state_count(&self, direction: Direction) -> usize
-        ensures value { result ≡ states self.now.bytes.now direction }
-        ensures bound { result ≤ 16384 }
-    {
-        self.magnitude(self.table_place(direction) + 2) / 2
     }
 
     /// How many classes the state tables have.
@@ -83,34 +77,7 @@ impl<'a> Parts<'a> {
         ensures value { result ≡ classes self.now.bytes.now }
         ensures bound { result ≤ 32768 }
     {
-        let at = self.table_place(Direction::Forward);
-        self.magnitude(at + 4)
-            .saturating_sub(self.magnitude(at + 2))
-    }
-
-    /// Where the codes of a state table begin.
-    pub fn first_code_place(&self, direction: Direction) -> usize
-        ensures value { result ≡ code_place self.now.bytes.now direction 0 }
-        ensures low { result ≤ 70000 }
-    {
-        self.table_place(direction) + 2 * self.state_count(direction)
-    }
-
-    /// How many codes a state table has.
-    pub fn code_total(&self, direction: Direction) -> usize
-        ensures value { result ≡ code_count self.now.bytes.now direction }
-        ensures low { result ≤ 1000000000 }
-    {
-        self.state_count(direction).saturating_sub(1) * self.class_count()
-    }
-
-    /// The codes of a state table.
-    pub fn code_rows(&self, direction: Direction) -> &'a [u8]
-        requires { code_place self.now.bytes.now direction (code_count self.now.bytes.now direction) ≤ length self.now.bytes.now }
-        ensures value { result.now ≡ codes self.now.bytes.now direction }
-        ensures size { length result.now ≡ code_count self.now.bytes.now direction }
-    {
-        let at = self.first_code_place(direction);
-        &self.bytes[at..at + self.code_total(direction)]
+        let forward = self.state_part(Direction::Forward);
+        magnitude(forward.word(2)).saturating_sub(magnitude(forward.word(1)))
     }
 }

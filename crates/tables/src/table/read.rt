@@ -1,6 +1,5 @@
 ghost use Rattle.std.specs.Prelude.{◌≡◌, ℕ, ◌<◌, ◌≤◌, true, false, Decides, MatchOption};
 ghost use Rattle.refusals.specs.declared.Direction.TheVariants.{Forward, Backward};
-ghost use Rattle.automata.specs.Machine.{next};
 ghost use Rattle.automata.specs.Sure.{Sure, holds};
 ghost use Rattle.automata.specs.Parts.{code_of};
 ghost use Rattle.tables.specs.Words.{signed8};
@@ -14,8 +13,6 @@ use crate::entry::Entry;
 use crate::lead::Lead;
 use crate::passed::Passed;
 use crate::verdict::Summary;
-use crate::words::word;
-use automata::code::Code;
 use automata::state_table::StateTable;
 use refusals::Direction;
 
@@ -31,26 +28,24 @@ impl Table {
     pub fn summary(&self) -> Summary
         ensures { Told (bytes_of self.now) result }
     {
-        self.layout.summary(&self.sure)
+        self.judgement.summary()
     }
 
-    /// The code of a state and a class in the forward table.
-    pub fn code(&self, state: usize, class: usize) -> Code
-        requires { (1 ≤ state) × ((state < states (bytes_of self.now) Forward) × (class < classes (bytes_of self.now))) }
-        ensures value { result ≡ machine (bytes_of self.now) Forward state class }
-        ensures below { next result < states (bytes_of self.now) Forward }
+    /// The forward state table.
+    pub fn forward(&self) -> StateTable<'_>
+        ensures machine { code_of result ≡ machine (bytes_of self.now) Forward }
+        ensures states { result.states ≡ states (bytes_of self.now) Forward }
+        ensures classes { result.classes ≡ classes (bytes_of self.now) }
     {
-        Code::new(
-            self.bytes[self.layout.code_start + (state - 1) * self.layout.class_total + class],
-        )
+        self.passed().machine(Direction::Forward)
     }
 
     /// Whether a pair of classes is sure.
     pub fn is_sure(&self, a: usize, b: usize) -> bool
-        ensures value { result ≡ holds self.now.sure.rows a b }
+        ensures value { result ≡ holds self.now.judgement.sure.rows a b }
         ensures sure { a < classes (bytes_of self.now) → b < classes (bytes_of self.now) → Decides result (Sure (machine (bytes_of self.now) Forward) (classes (bytes_of self.now)) a b) }
     {
-        self.sure.has(a, b)
+        self.judgement.sure.has(a, b)
     }
 
     /// The backward state table.
@@ -66,14 +61,15 @@ impl Table {
     pub fn backup(&self) -> usize
         ensures { result ≡ backup (bytes_of self.now) }
     {
-        usize::try_from(word(self.bytes.as_slice(), 12)).unwrap_or(0)
+        self.passed().parts().head().backup()
     }
 
-    // The class table's entry of a byte value, as it stands there.
+    // The class table's entry of a byte value, as it stands there. By the layout, since a page looks at one for each byte: by the
+    // header's field it took 3 in 100 more.
     fn entry(&self, byte: u8) -> u8
         ensures { signed8 result ≡ entry (bytes_of self.now) byte }
     {
-        self.bytes[self.layout.class_place + usize::from(byte)]
+        self.bytes[self.judgement.layout.class_place + usize::from(byte)]
     }
 
     /// Whether a byte is a first byte.

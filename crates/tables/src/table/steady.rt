@@ -10,10 +10,10 @@ impl Table {
     pub fn check_steady(&self) -> Result<(), Refusal>
         ensures { SteadyChecked (bytes_of self.now) result }
     {
-        match self.backward().unsteady(&self.sure) {
+        match self.backward().unsteady(&self.judgement.sure) {
             Some(k) => {
-                let at = self.passed().parts().first_code_place(Direction::Backward);
-                Err(Refusal::Unsteady(at + k))
+                let part = self.passed().state_part(Direction::Backward);
+                Err(Refusal::Unsteady(part.first_code_place() + k))
             }
             None => Ok(()),
         }

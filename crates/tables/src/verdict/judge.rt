@@ -12,7 +12,7 @@ pub fn judge(bytes: &[u8]) -> Result<Judgement, Refusal>
     let passed = Passed::check(bytes)?;
     let forward = passed.machine(Direction::Forward);
     if let Some(k) = forward.stuck() {
-        let at = passed.parts().first_code_place(Direction::Forward);
+        let at = passed.state_part(Direction::Forward).first_code_place();
         return Err(Refusal::NonAdvancing(at + k));
     }
     Ok(Judgement {
@@ -26,5 +26,5 @@ pub fn examine(bytes: &[u8]) -> Result<Summary, Refusal>
     ensures { Verdict bytes.now result }
 {
     let judgement = judge(bytes)?;
-    Ok(judgement.layout.summary(&judgement.sure))
+    Ok(judgement.summary())
 }

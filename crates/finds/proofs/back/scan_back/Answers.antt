@@ -1,4 +1,4 @@
-use Rattle.std.proofs.Common.{◌≡◌, ℕ, ◌-◌, ◌%◌, ◌<◌, ◌≤◌, ◌≢◌, List, [], reverse, length, sym, ap, ◌∙◌, subst, arith}
+use Rattle.std.proofs.Common.{◌≡◌, ℕ, ◌+◌, ◌-◌, ◌%◌, ◌<◌, ◌≤◌, ◌≢◌, List, [], reverse, length, sym, ap, ◌∙◌, subst, arith}
 use Rattle.std.proofs.lemmas.Bool.{leb-true, leb-false, eqb-true, eqb-false}
 use Rattle.refusals.specs.declared.Direction.TheVariants.{Backward}
 use Rattle.automata.specs.Machine.{next}
@@ -9,6 +9,7 @@ use Rattle.tables.proofs.Kept.{table_passes}
 use Rattle.tables.proofs.Tabled.{listed, list_passes}
 use Rattle.breaks.specs.Chars.{Char, char}
 use Rattle.breaks.specs.Meaning.{characters}
+use Rattle.breaks.specs.Places.{leads_before}
 use Rattle.breaks.proofs.Backs.{leads_inside}
 use Rattle.breaks.specs.ScanLaws.{mark_at, mark_here, mark_kept}
 use Rattle.finds.specs.Finds.{starting_below, backward_from}
@@ -22,8 +23,10 @@ pub loop-at-init : goal.loop-at-init
 loop-at-init c =
     let t = c.args.characters.now.table.now in
     let b = bytes_of t in
+    let text = c.args.characters.now.text.now in
     let low = (listed b Backward (list_passes b (table_passes t) Backward)).low in
-    (omega arith, omega arith, omega arith, omega arith, back_scan (machine b Backward) (backward_from b c.args.characters.now.text.now c.args.place), λ l. omega arith)
+    let last : c.args.place + 1 - 1 ≡ c.args.place = omega arith in
+    (omega arith, omega arith, omega arith, omega arith, back_scan (machine b Backward) (backward_from b text c.args.place), λ l. omega (arith, ap (leads_before (leads b) text) last, c.stretch_start-stretch.ensures.value))
 
 pub loop-at-preserved : goal.loop-at-preserved
 loop-at-preserved c =
@@ -32,7 +35,8 @@ loop-at-preserved c =
     let text = c.args.characters.now.text.now in
     let at = c.loop-at.at in
     let low_end = c.stretch_before-stretch.result in
-    let start = at - 1 - (at - 1 - low_end) % 2 in
+    let start = c.start_in_stretch-start.result in
+    let begins = c.start_in_stretch-start.ensures in
     let parity = ap (λ (n : ℕ). n % 2) c.stretch_before-stretch.ensures.value in
     let x = c.code-code.result in
     let u = c.at-here.result in
@@ -66,7 +70,8 @@ returns-then-exits c =
     let text = c.args.characters.now.text.now in
     let at = c.loop-at.at in
     let low_end = c.stretch_before-stretch.result in
-    let start = at - 1 - (at - 1 - low_end) % 2 in
+    let start = c.start_in_stretch-start.result in
+    let begins = c.start_in_stretch-start.ensures in
     let parity = ap (λ (n : ℕ). n % 2) c.stretch_before-stretch.ensures.value in
     let x = c.code-code.result in
     let u = c.at-here.result in

@@ -2,7 +2,6 @@ ghost use Rattle.tables.specs.Meaning.{Accepted};
 
 use super::Rejected;
 use crate::table::Table;
-use crate::verdict::Judgement;
 use crate::verdict::judge::judge;
 
 impl Table {
@@ -11,11 +10,7 @@ impl Table {
         ensures { Accepted bytes.items result }
     {
         match judge(&bytes) {
-            Ok(Judgement { sure, layout }) => Ok(Table {
-                bytes,
-                sure,
-                layout,
-            }),
+            Ok(judgement) => Ok(Table { bytes, judgement }),
             Err(refusal) => Err(Rejected { refusal, bytes }),
         }
     }

@@ -80,9 +80,9 @@ returns g c =
     let few = with_it.2 (sym none) in
     let within = c.run_over.ensures.within in
     record {
-      plain = λ f. pinned_new run bounds parts joins text pins f.are_true c.args.place checked.1 w wall.value wall.within wall.wall n none few (ap (λ (r : Run). r.number) (c.run_over.ensures.value f));
+      plain = λ f. pinned_new run bounds parts joins text pins f.are_true c.args.place checked.1 w wall.value wall.within wall.wall n none few (ap (λ (r : Run). r.number) (c.run_over.ensures.value f.are_true));
       follows = λ f.
-          let new = left_new run bounds parts joins text pins f.are_true c.args.place checked.1 w wall.value wall.within wall.wall n none few (ap (λ (r : Run). r.number) (c.run_over.ensures.value f)) in
+          let new = left_new run bounds parts joins text pins f.are_true c.args.place checked.1 w wall.value wall.within wall.wall n none few (ap (λ (r : Run). r.number) (c.run_over.ensures.value f.are_true)) in
           follows_by run parts _ text (insert (a_pin w n) pins) _ (f.is_long ∙ sym with_it.1) with_it.0 new.1 new.0;
       strange = (record { few = omega (arith, within.few, within.low); within = omega (arith, wall.within, checked.1) }, wall.value);
       keeps = (with_it.0 ∙ sym (cond-false _ _ _ (at_none w pins none)), with_it.1);

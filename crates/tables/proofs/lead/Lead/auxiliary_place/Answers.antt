@@ -8,5 +8,5 @@ returns-clause-bound c =
     let h = head l.parts.bytes.now l.parts.sound in
     let inside = h.auxiliary_in l.two in
     let whole = h.size_high in
-    let is = c.magnitude.ensures.value in
+    let is = c.offset.ensures.value in
     omega arith

@@ -1,9 +1,7 @@
-use Rattle.std.proofs.Common.{◌≡◌, ℕ, ◌+◌, ◌<◌, get_or, drop, nat_abs, sym, ap, ◌∙◌, arith}
+use Rattle.std.proofs.Common.{◌≡◌, ℕ, ◌+◌, ◌<◌, ◌≤◌, length, get_or, drop, nat_abs, Some, Option, IfSome, sym, ap, ◌∙◌, subst, arith}
 use lib.Signed.{non_neg}
 use Rattle.std.proofs.lemmas.List.{get_or-take, get_or-drop}
-use Rattle.std.proofs.lemmas.Bool.{both_ways}
 use Rattle.tables.specs.Words.{signed8}
-use Rattle.tables.specs.Layout.{fits}
 use Rattle.tables.specs.Classes.{row_start, row_bytes}
 use Rattle.tables.proofs.Numbers.{byte_above, byte_whole}
 use Rattle.tables.proofs.Heads.{head}
@@ -19,23 +17,26 @@ row_place-requires c =
     let whole = (head b (header_passes b p)).size_high in
     omega arith
 
-pub unreachable-requires : goal.unreachable-requires
-unreachable-requires c =
-    let b = c.args.self.now.parts.bytes.now in
-    both_ways (fits b (row_start b c.args.self.now.k) 256) c.in_default.ensures.place (even_row b c.requires.0 c.args.self.now.k c.requires.1)
+pub unwrap-at-requires : goal.unwrap-at-requires
+unwrap-at-requires c =
+    c.row_place.ensures.fits ∙ even_row c.args.self.now.parts.bytes.now c.requires.0 c.args.self.now.k c.requires.1
+
+-- what is said of a place that is told is said of the one taken out
+taken : (o : Option ℕ) (at : ℕ) (P : ℕ → Type 0) → o ≡ Some at → IfSome o P → P at
+taken o at P e p = subst (λ (x : Option ℕ). IfSome x P) e p
 
 pub returns : goal.returns
 returns c =
     let b = c.args.self.now.parts.bytes.now in
     let k = c.args.self.now.k in
     let y = c.args.second in
-    let at = c.in-Some.ensures.place.1 in
+    let at = (taken c.row_place.result c.unwrap-at.result (λ at. (at ≡ nat_abs (row_start b k)) × (at + 256 ≤ length b)) c.unwrap-at.ensures c.row_place.ensures.place).0 in
     let f = c.ranges.second in
     let lt : y < 256 = omega arith in
-    let x = get_or b (c.in-Some.at + y) 0 in
+    let x = get_or b (c.unwrap-at.result + y) 0 in
     let there : get_or (row_bytes b k) y 0 ≡ x =
     get_or-take 256 (drop (nat_abs (row_start b k)) b) y 0 lt ∙ get_or-drop (nat_abs (row_start b k)) b y 0 ∙ ap (λ (n : ℕ). get_or b (n + y) 0) (sym at) in
-    let read : c.byte.result ≡ x = c.byte.ensures ∙ ap (λ (n : ℕ). get_or b (c.in-Some.at + n) 0) c.from.ensures in
+    let read : c.byte.result ≡ x = c.byte.ensures ∙ ap (λ (n : ℕ). get_or b (c.unwrap-at.result + n) 0) c.from.ensures in
     let small = c.byte.type_inv in
     let whole : non_neg (signed8 x) ≡ _ = ap (λ (n : ℕ). non_neg (signed8 n)) (sym there) ∙ even_whole b c.requires.0 k y c.requires.1 lt in
     c.from-2.ensures ∙ read ∙ sym (ap (λ (n : ℕ). nat_abs (signed8 n)) there ∙ ap nat_abs (byte_above x (byte_whole x (omega arith) whole)))

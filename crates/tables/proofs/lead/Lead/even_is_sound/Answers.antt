@@ -21,13 +21,13 @@ row_place-requires c =
     let whole = (head b c.args.self.now.parts.sound).size_high in
     omega arith
 
-pub returns-in-Some : goal.returns-in-Some
-returns-in-Some c =
+pub returns : goal.returns
+returns c =
     let b = c.args.self.now.parts.bytes.now in
     let k = c.args.self.now.k in
-    let e = c.in-Some.ensures.place in
+    let e = c.in-Some.ensures in
     let at = c.auxiliary_place.ensures in
     let first = sym (word-fits b _ _ k c.head.ensures at.value at.low c.args.self.now.high) ∙ sym c.fits.ensures ∙ c.if-not-fits.false in
-    c.row_is_sound.ensures ∙ ap (λ (s : ℕ). every (λ y. is_class b (byte (take 256 (drop s b)) y)) 256) e.1
-    ∙ ap (λ (t : Bool). t && every (λ y. is_class b (even_class b k y)) 256) (sym e.0)
+    c.row_is_sound.ensures ∙ ap (λ (s : ℕ). every (λ y. is_class b (byte (take 256 (drop s b)) y)) 256) e.place.0
+    ∙ ap (λ (t : Bool). t && every (λ y. is_class b (even_class b k y)) 256) e.fits
     ∙ ap (λ (t : Bool). t && (fits b (row_start b k) 256 && every (λ y. is_class b (even_class b k y)) 256)) (sym first)

@@ -7,5 +7,5 @@ returns-clause-bound c =
     let h = head c.args.self.now.bytes.now c.args.self.now.sound in
     let inside = h.class_table_in in
     let whole = h.size_high in
-    let is = c.magnitude.ensures.value in
+    let is = c.offset.ensures.value in
     omega arith

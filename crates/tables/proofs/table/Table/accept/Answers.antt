@@ -3,8 +3,8 @@ use Rattle.tables.specs.Verdicts.{Judged}
 use Rattle.tables.proofs.table.Table.accept.Goals as goal
 
 -- what is judged of the slice is judged of the bytes
-judged : (c : goal.In-Ok) → Judged (vec_items c.args.bytes) c.in-Ok.field-0
-judged c = subst (λ (b : List ℕ). Judged b c.in-Ok.field-0) c.deref.ensures.value c.in-Ok.ensures
+judged : (c : goal.In-Ok) → Judged (vec_items c.args.bytes) c.in-Ok.judgement
+judged c = subst (λ (b : List ℕ). Judged b c.in-Ok.judgement) c.deref.ensures.value c.in-Ok.ensures
 
 pub invariant_of-result : goal.invariant_of-result
 invariant_of-result c =
@@ -19,7 +19,6 @@ invariant_of-result c =
       none_first = s.none_first;
       none_second = s.none_second;
       class_place_is = l.class_place_is;
-      code_start_is = l.code_start_is;
       state_total_is = l.state_total_is;
       class_total_is = l.class_total_is;
     }

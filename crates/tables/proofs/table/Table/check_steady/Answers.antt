@@ -1,4 +1,5 @@
 use Rattle.std.proofs.Common.{◌≡◌, ℕ, ◌+◌, List, ap, ◌∙◌, arith, rules}
+use Rattle.refusals.specs.declared.Direction.{Direction}
 use Rattle.refusals.specs.declared.Direction.TheVariants.{Backward}
 use Rattle.automata.specs.Parts.{code_of}
 use Rattle.tables.specs.Layout.{machine, classes, code_place}
@@ -15,8 +16,9 @@ returns-in-Some c =
     let classes_are : m.classes ≡ classes b = search rules in
     let k = c.in-Some.k in
     let l = c.in-Some.ensures.least in
-    let place : c.first_code_place-at.result + k ≡ code_place b Backward k =
-    let at = c.first_code_place-at.ensures.value ∙ ap (λ (l : List ℕ). code_place l Backward 0) (c.parts.ensures ∙ c.passed.ensures) in
+    let part = c.state_part-part.ensures in
+    let place : c.first_code_place.result + k ≡ code_place b Backward k =
+    let at = c.first_code_place.ensures.value ∙ ap (λ (d : Direction). code_place c.state_part-part.result.parts.bytes.now d 0) part.direction ∙ ap (λ (l : List ℕ). code_place l Backward 0) (part.parts ∙ c.passed.ensures) in
     omega arith in (
       k,
       λ sure tells. (

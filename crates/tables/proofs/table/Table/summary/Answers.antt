@@ -15,7 +15,7 @@ returns c =
     let t = c.args.self.now in
     let b = bytes_of t in
     let C = classes b in
-    let rows = t.sure.rows in
+    let rows = t.judgement.sure.rows in
     record {
       states_is = search rules;
       classes_is = search rules;

@@ -1,4 +1,5 @@
 use Rattle.std.proofs.Common.{◌≡◌, ℕ, ◌+◌, List, Decides, sym, ap, ◌∙◌, subst, inr, arith}
+use Rattle.refusals.specs.declared.Direction.{Direction}
 use Rattle.refusals.specs.declared.Direction.TheVariants.{Forward}
 use Rattle.refusals.specs.declared.Refusal.TheVariants.{NonAdvancing}
 use Rattle.automata.specs.Machine.{Advances}
@@ -31,7 +32,8 @@ returns-in-Some c =
     let classes-are = e.classes ∙ ap classes same in
     let l = c.in-Some.ensures.least in
     let k = c.in-Some.k in
-    let start = c.first_code_place-at.ensures.value ∙ ap (λ (l : List ℕ). code_place l Forward 0) (c.parts.ensures ∙ same) in
+    let part = c.state_part.ensures in
+    let start = c.first_code_place-at.ensures.value ∙ ap (λ (d : Direction). code_place c.state_part.result.parts.bytes.now d 0) part.direction ∙ ap (λ (l : List ℕ). code_place l Forward 0) (part.parts ∙ same) in
     let place : c.first_code_place-at.result + k ≡ code_place a Forward k = omega arith in
     inr (
       subst (λ (l : List ℕ). Passes (checks l)) same q.sound,

@@ -31,6 +31,7 @@ loop-at-preserved c =
     let x = c.code-code.result in
     let u = c.at-here.result in
     let e = c.at-here.ensures in
+    let value = c.code-code.ensures.value ∙ ap (λ (m : ℕ → ℕ → ℕ). m c.loop-at.state u.class) c.forward-forward.ensures.machine in
     let rest = characters b (drop (at + u.size) text) in
     let mark : c.if-marks.mark ≡ mark_at x at c.loop-at.mark =
     elim c.if-marks.branch [
@@ -39,10 +40,10 @@ loop-at-preserved c =
     ] in
     let goes : next x ≢ 0 = eqb-false (next x) 0 (sym c.exits.ensures ∙ c.if-exits.false) in
     let follows : c.next-state.result ≡ next x = c.next-state.ensures.value in
-    let on = go_on (machine b Forward) c.loop-at.state at c.loop-at.mark x (characters b (drop at text)) (char u.size u.class) rest e.reads c.code-code.ensures.value goes in (
+    let on = go_on (machine b Forward) c.loop-at.state at c.loop-at.mark x (characters b (drop at text)) (char u.size u.class) rest e.reads value goes in (
       e.within,
       omega arith,
-      (let below = c.code-code.ensures.below in omega arith),
+      (let below = c.code-code.ensures.below in let total = c.forward-forward.ensures.states in omega arith),
       ap (λ (s : ℕ). go (machine b Forward) s (at + u.size) c.if-marks.mark rest) follows
           ∙ ap (λ (m : ℕ). go (machine b Forward) (next x) (at + u.size) m rest) mark ∙ sym on ∙ c.loop-at.invariant.3,
     )
@@ -54,6 +55,7 @@ returns-then-exits c =
     let at = c.loop-at.at in
     let u = c.at-here.result in
     let e = c.at-here.ensures in
+    let value = c.code-code.ensures.value ∙ ap (λ (m : ℕ → ℕ → ℕ). m c.loop-at.state u.class) c.forward-forward.ensures.machine in
     let x = c.code-code.result in
     let mark : c.if-marks.mark ≡ mark_at x at c.loop-at.mark =
     elim c.if-marks.branch [
@@ -61,7 +63,7 @@ returns-then-exits c =
       | else-marks w ↦ w.mark-is ∙ sym (mark_kept x at c.loop-at.mark (leb-false 128 x (sym c.marks.ensures ∙ w.if-marks.false)))
     ] in
     let exit =
-    go_exits (machine b Forward) c.loop-at.state at c.loop-at.mark c.code-code.result (characters b (drop at text)) (char u.size u.class) (characters b (drop (at + u.size) text)) e.reads c.code-code.ensures.value (eqb-true (next x) 0 (sym c.exits.ensures ∙ c.if-exits.true)) in
+    go_exits (machine b Forward) c.loop-at.state at c.loop-at.mark c.code-code.result (characters b (drop at text)) (char u.size u.class) (characters b (drop (at + u.size) text)) e.reads value (eqb-true (next x) 0 (sym c.exits.ensures ∙ c.if-exits.true)) in
     let left = c.loop-at.invariant.3 in
     let inside = c.in_ok-check_place.ensures.inside in
     answers text c.args.place _ inside.0 inside.1 _ (omega arith)

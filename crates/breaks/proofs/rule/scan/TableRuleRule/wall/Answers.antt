@@ -14,10 +14,10 @@ use Rattle.breaks.proofs.rule.scan.TableRuleRule.wall.Goals as goal
 
 -- the wall of a place past the start, as the characters of the whole text tell
 walled : (r : TableRule) (text : List ℕ) (place : ℕ) → 1 ≤ place → place < length text
-    → wall_at (parts_of r) text place ≡ parted (holds r.table.sure.rows) place (characters (bytes_of r.table) text)
+    → wall_at (parts_of r) text place ≡ parted (holds r.table.judgement.sure.rows) place (characters (bytes_of r.table) text)
 walled r text place h l =
     let b = bytes_of r.table in
-    wall_past (parts_of r) text place h ∙ parted_at (holds r.table.sure.rows) (leads b) (one_class b) (two_class b) text place (omega arith)
+    wall_past (parts_of r) text place h ∙ parted_at (holds r.table.judgement.sure.rows) (leads b) (one_class b) (two_class b) text place (omega arith)
 
 pub returns-then-start-before : goal.returns-then-start-before
 returns-then-start-before c =
@@ -31,7 +31,7 @@ returns-then-start-before c =
     let first : 1 ≤ place = let ne = c.if-place-eq0.false in omega arith in
     answers text place (wall_at (parts_of r) text place) inside.0 inside.1 false
     (sym (walled r text place first inside.1
-    ∙ parted_amid (leads b) (one_class b) (two_class b) (holds r.table.sure.rows) text place (omega arith) inside.1 c.start-start.result c.start-start.ensures.value (char u.size u.class) e.some e.reads c.if-start-before.true))
+    ∙ parted_amid (leads b) (one_class b) (two_class b) (holds r.table.judgement.sure.rows) text place (omega arith) inside.1 c.start-start.result c.start-start.ensures.value (char u.size u.class) e.some e.reads c.if-start-before.true))
 
 pub returns : goal.returns
 returns c =
@@ -47,7 +47,7 @@ returns c =
     let first : 1 ≤ place = let ne = c.if-place-eq0.false in omega arith in
     let is =
     walled r text place first inside.1
-    ∙ parted_between (leads b) (one_class b) (two_class b) (holds r.table.sure.rows) text place (omega arith) inside.1 c.start-start.result c.start-start.ensures.value (char u.size u.class) e.some e.reads c.if-start-before.false
+    ∙ parted_between (leads b) (one_class b) (two_class b) (holds r.table.judgement.sure.rows) text place (omega arith) inside.1 c.start-start.result c.start-start.ensures.value (char u.size u.class) e.some e.reads c.if-start-before.false
     (char v.size v.class) (characters b (drop (place + v.size) text)) f.reads in
     let told = c.is_sure.ensures in
     let same : ◌≡◌ {A = Bool} c.is_sure.result (wall_at (parts_of r) text place) = cc in
