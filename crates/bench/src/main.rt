@@ -36,6 +36,7 @@ fn bench(rt: &HostRuntime, rounds: usize) -> io::Result<()> {
     println!(rt; "try {tried}")?;
     let look = time(rt, rounds, |round| look_once(&book, &text, round))?;
     println!(rt; "look {look}")?;
+    // the numbers are factors: the places are the first 64 multiples
     for k in 0..64 {
         let _ = book.pin(&text, (text.len() / 64).wrapping_mul(k));
     }

@@ -7,6 +7,7 @@ use std::test::Fail;
 fn sixty_four_pins(rt: HostRuntime) -> Result<(), Fail> {
     let text = [13; 65];
     let mut book = opened(&text)?;
+    // the places are the values here, and the numbers too
     for place in 0..64 {
         let pin = book.pin(&text, place)?;
         assert_eq!(rt; (pin.place, pin.number), (place, place));

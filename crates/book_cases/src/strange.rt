@@ -11,6 +11,7 @@ fn asked(rt: HostRuntime) -> Result<(), Fail> {
     let mut book = opened(&OWN)?;
     book.pin(&OWN, 4)?;
     book.pin(&OWN, 7)?;
+    // the places are the values here
     for place in 0..8 {
         let run = book.look(&STRANGE, place)?;
         assert!(rt; run.number <= run.start && run.start <= place);

@@ -227,8 +227,7 @@ fn pages(rt: HostRuntime) -> Result<(), Fail> {
 #[test]
 fn lines(rt: HostRuntime) -> Result<(), Fail> {
     for (refusal, line) in LINES {
-        let report = refusal.report();
-        assert_eq!(rt; format!(in rt.alloc(); "{report}")?.as_str(), line);
+        assert_eq!(rt; format!(in rt.alloc(); "{refusal}")?.as_str(), line);
     }
     Ok(())
 }

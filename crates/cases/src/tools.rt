@@ -6,7 +6,8 @@ use std::process::Abort;
 use std::test::Fail;
 use tables::{Summary, Table, examine};
 
-// What a call tells: its answer, or the number, part and place of its refusal.
+// What a call tells: its answer, or the number, part and place of its refusal. Both by numbers, as the documents tell them, so
+// that a changed number fails a test.
 pub type Told<T> = Result<T, (u8, u8, usize)>;
 
 // States, classes and sure pairs.
@@ -36,7 +37,11 @@ pub fn edit(bytes: &mut [u8], edits: &[(usize, u8)]) -> Result<(), Fail> {
     Ok(())
 }
 
-// What is told of the bytes, alike by both calls; where they are not accepted, they are handed back.
+// Edits of a table, and what is told of it then.
+pub type Edited = (&'static [(usize, u8)], Told<Counts>);
+
+// What is told of the bytes, alike by both calls; where they are not accepted, they are handed back. Here and in the other
+// files the heap goes beside `rt`: the runtime has `Abort` only in the test that takes it.
 pub fn verdict(rt: &impl Abort, heap: Global, bytes: &[u8]) -> Result<Told<Counts>, Fail> {
     let answer = told(examine(bytes)).map(counts);
     match Table::accept(bytes.to_vec(heap)?) {
@@ -47,6 +52,16 @@ pub fn verdict(rt: &impl Abort, heap: Global, bytes: &[u8]) -> Result<Told<Count
         }
     }
     Ok(answer)
+}
+
+// What is told of a table after each of some edits.
+pub fn verdicts(rt: &impl Abort, heap: Global, table: &[u8], cases: &[Edited]) -> Result<(), Fail> {
+    for (edits, expected) in cases {
+        let mut bytes = table.to_vec(heap)?;
+        edit(&mut bytes, edits)?;
+        assert_eq!(rt; verdict(rt, heap, &bytes)?, *expected);
+    }
+    Ok(())
 }
 
 // The rule of a table that has to be accepted.

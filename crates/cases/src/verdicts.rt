@@ -1,4 +1,4 @@
-use crate::tools::{Counts, Told, edit, verdict};
+use crate::tools::{Counts, Edited, Told, edit, verdict, verdicts};
 use school::school_table;
 use std::alloc::Global;
 use std::test::Fail;
@@ -52,7 +52,7 @@ const SCHOOL_BYTES: [(usize, u8); 44] = [
 ];
 
 // Edits of the school table, and what is told of it then.
-const EDITED: [(&[(usize, u8)], Told<Counts>); 86] = [
+const EDITED: [Edited; 86] = [
     // nothing looks at these: version, doBackup, the auxiliary offset of a one-byte table
     (&[(2, 255), (3, 255), (12, 255), (13, 255)], Ok((6, 4, 9))),
     (&[(6, 128)], Ok((6, 4, 9))),
@@ -183,7 +183,7 @@ const LARGEST_HEADER: [(usize, u8); 8] = [
 ];
 
 // Edits of the largest table, and what is told of it then.
-const LARGEST_EDITED: [(&[(usize, u8)], Told<Counts>); 5] = [
+const LARGEST_EDITED: [Edited; 5] = [
     (&[], Ok((64, 128, 16384))),
     // the last class of start leads to the last state, whose last code exits without a mark
     (&[(8719, 126)], Ok((64, 128, 16384))),
@@ -194,6 +194,7 @@ const LARGEST_EDITED: [(&[(usize, u8)], Told<Counts>); 5] = [
 
 // Appends a list of 64 words: 0, 128, 256 and so on.
 fn append_list(bytes: &mut Vec<u8>) -> Result<(), Fail> {
+    // the numbers are the values here
     for k in 0..64u16 {
         bytes.extend_from_slice(&(128 * k).to_be_bytes())?;
     }
@@ -204,6 +205,7 @@ fn append_list(bytes: &mut Vec<u8>) -> Result<(), Fail> {
 pub fn largest(heap: Global) -> Result<Vec<u8>, Fail> {
     let mut bytes = vec![in heap; 0; 16]?;
     edit(&mut bytes, &LARGEST_HEADER)?;
+    // the classes are the values here
     for class in 0..128u8 {
         bytes.extend_from_slice(&[class, class])?;
     }
@@ -229,12 +231,7 @@ fn school_bytes(rt: HostRuntime) -> Result<(), Fail> {
 
 #[test]
 fn edited(rt: HostRuntime) -> Result<(), Fail> {
-    for (edits, expected) in EDITED {
-        let mut bytes = school_table();
-        edit(&mut bytes, edits)?;
-        assert_eq!(rt; verdict(&rt, rt.alloc(), &bytes)?, expected);
-    }
-    Ok(())
+    verdicts(&rt, rt.alloc(), &school_table(), &EDITED)
 }
 
 #[test]
@@ -251,10 +248,5 @@ fn handed_in(rt: HostRuntime) -> Result<(), Fail> {
 
 #[test]
 fn largest_edited(rt: HostRuntime) -> Result<(), Fail> {
-    for (edits, expected) in LARGEST_EDITED {
-        let mut bytes = largest(rt.alloc())?;
-        edit(&mut bytes, edits)?;
-        assert_eq!(rt; verdict(&rt, rt.alloc(), &bytes)?, expected);
-    }
-    Ok(())
+    verdicts(&rt, rt.alloc(), &largest(rt.alloc())?, &LARGEST_EDITED)
 }

@@ -50,6 +50,7 @@ fn shaped<R: Rule>(rt: &impl Abort, rule: &R, shapes: &[Shape]) -> Result<(), Fa
         }
         assert_eq!(rt; at, text.len());
         let mut left = walls.iter();
+        // the places are the values here
         for place in 0..text.len() {
             if rule.wall(text, place)? {
                 assert_eq!(rt; left.next().copied(), Some(place));

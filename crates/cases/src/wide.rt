@@ -1,4 +1,4 @@
-use crate::tools::{Counts, Told, edit, read, rule_of, school_rule, told, verdict};
+use crate::tools::{Edited, Told, edit, read, rule_of, school_rule, told, verdicts};
 use breaks::TableRule;
 use rules::Rule;
 use school::school_table;
@@ -11,7 +11,7 @@ use std::test::Fail;
 const WIDER: [(usize, u8); 4] = [(1, 1), (7, 68), (14, 2), (15, 198)];
 
 // Edits of that table, and what is told of it then.
-const EDITED: [(&[(usize, u8)], Told<Counts>); 46] = [
+const EDITED: [Edited; 46] = [
     (&[], Ok((6, 4, 9))),
     (&[(1, 0), (145, 255)], Err((5, 1, 145))),
     // k odd and w a class: 3, 4, 256; k of 1 and 127
@@ -199,11 +199,7 @@ fn reads(rt: &impl Abort, rule: &TableRule, text: &[u8], cases: &[(usize, Told<(
 
 #[test]
 fn edited(rt: HostRuntime) -> Result<(), Fail> {
-    for (edits, expected) in EDITED {
-        let bytes = wider(rt.alloc(), edits)?;
-        assert_eq!(rt; verdict(&rt, rt.alloc(), &bytes)?, expected);
-    }
-    Ok(())
+    verdicts(&rt, rt.alloc(), &wider(rt.alloc(), &[])?, &EDITED)
 }
 
 #[test]

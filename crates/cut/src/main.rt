@@ -3,11 +3,12 @@
 
 use breaks::cut_page;
 use files::{Failure, TEXT_LIMIT, read_input, read_table, tell};
+use rules::LIMIT;
 use std::io;
 use std::io::Write;
 
-/// The bytes of a cut file of the longest text.
-const FILE_LIMIT: usize = 65532;
+// The bytes of a cut file of the longest text.
+const FILE_LIMIT: usize = 4 * LIMIT;
 
 fn cut(rt: &HostRuntime) -> Result<(), Failure> {
     let table = read_table(rt)?;

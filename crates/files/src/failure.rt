@@ -10,6 +10,8 @@ use std::io;
 pub enum Failure {
     /// An input is refused.
     Refused(Refusal),
+    /// No rule is named, and this line of the program's own says so.
+    Said(&'static str),
     /// Reading, writing or taking memory failed.
     Io(io::Error),
 }
@@ -38,13 +40,14 @@ impl From<AllocError> for Failure {
     }
 }
 
-/// Ends a program: a refusal is its answer, in a line, and other failures are its own.
+/// Ends a program: prints a refusal, or its own line, as the answer, and hands any other failure on.
 pub fn tell(rt: &HostRuntime, done: Result<(), Failure>) -> io::Result<()>
     ensures { MatchResult done (λ _. result ≡ Ok tt) (λ failure. (error : _) → failure ≡ Io error → result ≡ Err error) }
 {
     match done {
         Ok(()) => Ok(()),
         Err(Failure::Refused(refusal)) => println!(rt; "{refusal}"),
+        Err(Failure::Said(line)) => println!(rt; "{line}"),
         Err(Failure::Io(error)) => Err(error),
     }
 }

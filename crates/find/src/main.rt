@@ -2,15 +2,14 @@
 #![tactic(auto)]
 
 use breaks::TableRule;
-use files::{Failure, TEXT_LIMIT, read_input, read_table, tell};
+use files::{Failure, TEXT_LIMIT, read_input, tell};
 use finds::find;
-use requests::number;
+use requests::{number, read_rule};
 use std::env::Env;
 use std::io::Write;
 use std::{io, str};
-use tables::Table;
 
-/// As many bytes as the system lets one argument have.
+// As many bytes as the system lets one argument have.
 const WORD_MOST: usize = 131072;
 
 // The place that an argument names.
@@ -32,11 +31,11 @@ fn show(rt: &HostRuntime, rule: &TableRule, text: &[u8], word: &[u8]) -> io::Res
 
 // Writes the line of each argument but the first, which is the program's own name.
 fn show_all(rt: &HostRuntime) -> Result<(), Failure> {
-    let table = Table::accept(read_table(rt)?).map_err(|rejected| rejected.refusal)?;
-    let rule = TableRule { table };
+    let rule = read_rule(rt)?;
     let text = read_input(rt, TEXT_LIMIT)?;
     // an argument need not be UTF-8, as a String is, and its bytes are written back
     let mut word = [0; WORD_MOST];
+    // the system gives an argument by its number
     for i in 1..usize::MAX {
         let Ok(size) = rt.arg(i, &mut word) else {
             break;

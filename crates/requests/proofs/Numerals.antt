@@ -1,17 +1,13 @@
 -- What `parse` reads, in the words of the contracts.
-use Rattle.std.proofs.Common.{◌≡◌, ℕ, ◌^◌, ◌<◌, true, List, [], ◌∷◌, length, get_or, Ok, Err, Result, subst, arith, MatchOption}
+use Rattle.std.proofs.Common.{◌≡◌, ℕ, ◌^◌, ◌<◌, true, List, length, get_or, Ok, Err, Result, subst, MatchOption}
 use Rattle.std.specs.Result.{OkIff, result_ok}
 use Rattle.std.specs.Str.Parse.{digits_value, ParsesUnsigned}
 use Rattle.std.specs.Str.{all_ascii_digits}
-use Rattle.std.proofs.lemmas.Str.Parse.{IsNumeralModel, numerals_by_value, tells_all_ascii_digits, not_in_digits, parse_plain}
+use Rattle.std.proofs.lemmas.Str.Parse.{IsNumeralModel, numerals_by_value, tells_all_ascii_digits, parse_plain}
 use Rattle.requests.specs.Decimals.{Decimal}
 
 own : IsNumeralModel (λ ds. all_ascii_digits ds ≡ true) (digits_value 10)
 own = numerals_by_value _ tells_all_ascii_digits
-
--- a plus is no digit
-pub no_plus : (word : List ℕ) (n : ℕ) → get_or word 0 0 ≡ 43 → Decimal word n → ⊥
-no_plus word n plus d = not_in_digits own word 43 d.digits (λ i. omega arith) 0 d.some plus
 
 told : {E : Type 0} (word : List ℕ) (r : Result ℕ E) → OkIff r ((all_ascii_digits word ≡ true) × (0 < length word) × (digits_value 10 word < 2 ^ 64)) (digits_value 10 word)
     → MatchOption (result_ok r) ((n : ℕ) → n < 2 ^ 64 → Decimal word n → ⊥) (Decimal word)
@@ -22,8 +18,3 @@ told word (Err e) c = λ n low d. c (d.digits, d.some, subst (λ (k : ℕ). k < 
 pub read_plain : {E : Type 0} (word : List ℕ) (r : Result ℕ E) → ParsesUnsigned 64 10 word r → (get_or word 0 0 ≡ 43 → ⊥)
     → MatchOption (result_ok r) ((n : ℕ) → n < 2 ^ 64 → Decimal word n → ⊥) (Decimal word)
 read_plain word r h plain = told word r (parse_plain own 64 word r h plain)
-
--- an empty word has no plus in front
-pub empty_plain : (word : List ℕ) → length word ≡ 0 → get_or word 0 0 ≡ 43 → ⊥
-empty_plain [] h plus = omega arith
-empty_plain (x ∷ xs) h plus = omega arith

@@ -8,7 +8,7 @@ use breaks::TableRule;
 use refusals::Refusal;
 use rules::{Line, Rule};
 
-// an enum and no `dyn Rule`: a function that makes a boxed rule may not hand it out
+// an enum and no `Box<dyn Rule>`: `rt ci` refuses a function that makes a boxed dyn value and hands it out
 /// A rule that stands on no other, chosen as the program runs.
 #[derive(Drop)]
 pub enum Base {

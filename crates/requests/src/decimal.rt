@@ -6,8 +6,7 @@ pub fn number(word: &str) -> Option<usize>
     ensures { MatchOption result ((n : ℕ) → n < 2 ^ 64 → Decimal word.now n → ⊥) (Decimal word.now) }
 {
     // `parse` takes a plus in front as well
-    let bytes = word.as_bytes();
-    if !bytes.is_empty() && bytes[0] == b'+' {
+    if word.starts_with('+') {
         return None;
     }
     word.parse::<usize>().ok()

@@ -1,14 +1,15 @@
 ghost use Rattle.std.specs.Prelude.{◌≡◌};
-ghost use Rattle.requests.specs.declared.request.Unread.TheVariants.{NoMemory};
+ghost use Rattle.files.specs.declared.failure.Failure.TheVariants.{Said, Io};
+ghost use Rattle.requests.specs.declared.request.Unread.TheVariants.{NoRule, NoMemory};
 
 use crate::base::Base;
 use crate::decimal::byte;
-use breaks::TableRule;
-use files::{Failure, read_table};
+use crate::table::read_rule;
+use files::Failure;
 use layers::{Layer, Pile};
 use rules::Line;
 use std::alloc::{AllocError, AllocFailed, Global};
-use tables::Table;
+use std::str::Utf8Error;
 
 /// The name of a rule that stands on no other.
 #[derive(Clone, Copy, PartialEq, Eq, Debug)]
@@ -47,6 +48,28 @@ impl<T: Drop> From<AllocFailed<T>> for Unread {
 
     fn from(_error: AllocFailed<T>) -> Unread {
         Unread::NoMemory
+    }
+}
+
+/// A line that is no UTF-8 names no rule.
+impl From<Utf8Error> for Unread {
+    ghost from_gives = { λ _ unread. unread ≡ NoRule };
+
+    fn from(_error: Utf8Error) -> Unread {
+        Unread::NoRule
+    }
+}
+
+impl Unread {
+    /// The failure of a program that says this line where no rule is named.
+    pub fn failure(self, line: &'static str) -> Failure
+        ensures no_rule { self ≡ NoRule → result ≡ Said line.entry }
+        ensures no_memory { self ≡ NoMemory → (error : _) × (result ≡ Io error) }
+    {
+        match self {
+            Unread::NoRule => Failure::Said(line),
+            Unread::NoMemory => AllocError.into(),
+        }
     }
 }
 
@@ -98,10 +121,7 @@ impl Request {
         let Request { base, layers } = self;
         let below = match base {
             BaseName::Line => Base::Line(Line),
-            BaseName::Table => {
-                let table = Table::accept(read_table(rt)?).map_err(|rejected| rejected.refusal)?;
-                Base::Table(TableRule { table })
-            }
+            BaseName::Table => Base::Table(read_rule(rt)?),
         };
         Ok(Pile { below, layers })
     }

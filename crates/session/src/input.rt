@@ -2,7 +2,7 @@ use books::{Call, Step};
 use requests::{Request, Unread, byte, number};
 use std::alloc::{AllocError, Global};
 
-/// What standard input asks for: a rule, and what stands on each line after the first, None where that is no call.
+/// What standard input says: a rule, and what stands on each line after the first, None where that is no call.
 #[derive(Drop)]
 pub struct Input {
     pub request: Request,
@@ -71,7 +71,7 @@ impl Input {
         let closed = bytes.strip_suffix(b"\n").unwrap_or(bytes);
         let mut rest = closed.split(|byte| *byte == b'\n');
         let first = rest.next().ok_or(Unread::NoRule)?;
-        let first = std::str::from_utf8(first).map_err(|_| Unread::NoRule)?;
+        let first = std::str::from_utf8(first)?;
         let request = Request::parse(heap, first)?;
         let mut lines = Vec::new(heap);
         for line in rest {

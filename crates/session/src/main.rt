@@ -7,26 +7,28 @@ mod show;
 use books::{Halt, replay};
 use files::{Failure, read_input, read_text, tell};
 use input::{Input, steps_of};
-use requests::Unread;
 use show::show_replay;
 use std::alloc::AllocError;
 use std::io;
 
+// A function and no `From`: both types are of other crates, and neither of these knows of the other.
+fn failure_of(halt: Halt) -> Failure {
+    match halt {
+        Halt::Refused(refusal) => refusal.into(),
+        Halt::NoMemory => AllocError.into(),
+    }
+}
+
 fn session(rt: &HostRuntime) -> Result<(), Failure> {
-    let bytes = read_input(rt, u64::MAX)?;
-    let Input { request, lines } = match Input::parse(rt.alloc(), &bytes) {
-        Ok(input) => input,
-        Err(Unread::NoRule) => return Ok(println!(rt; "line 1: not a rule")?),
-        Err(Unread::NoMemory) => return Err(AllocError.into()),
-    };
+    let bytes = read_input(rt, usize::MAX)?;
+    let input = Input::parse(rt.alloc(), &bytes);
+    let Input { request, lines } = input.map_err(|unread| unread.failure("line 1: not a rule"))?;
     let rule = request.rule(rt)?;
     let mut text = read_text(rt)?;
     let steps = steps_of(rt.alloc(), &lines)?;
-    match replay(rt.alloc(), rule, &mut text, &steps) {
-        Ok(replay) => Ok(show_replay(rt, &lines, &replay, &text)?),
-        Err(Halt::Refused(refusal)) => Err(refusal.into()),
-        Err(Halt::NoMemory) => Err(AllocError.into()),
-    }
+    let replay = replay(rt.alloc(), rule, &mut text, &steps).map_err(failure_of)?;
+    show_replay(rt, &lines, &replay, &text)?;
+    Ok(())
 }
 
 fn main(rt: HostRuntime) -> io::Result<()> {

@@ -6,24 +6,15 @@ mod show;
 
 use files::{Failure, TEXT_LIMIT, read_input, tell};
 use request::{FIRST_LIMIT, parse};
-use requests::Unread;
 use show::show;
-use std::alloc::AllocError;
 use std::io;
 
-/// As many bytes of the text are read as the other programs read.
-const TEXT_MOST: usize = 16384;
-
 fn walls(rt: &HostRuntime) -> Result<(), Failure> {
-    // `as`: there is no From from usize to u64
-    let input = read_input(rt, FIRST_LIMIT as u64 + TEXT_LIMIT)?;
-    let (request, rest) = match parse(rt.alloc(), &input) {
-        Ok(read) => read,
-        Err(Unread::NoRule) => return Ok(println!(rt; "no rule")?),
-        Err(Unread::NoMemory) => return Err(AllocError.into()),
-    };
+    let input = read_input(rt, FIRST_LIMIT + TEXT_LIMIT)?;
+    let (request, rest) = parse(rt.alloc(), &input).map_err(|unread| unread.failure("no rule"))?;
     let rule = request.rule(rt)?;
-    show(rt, &rule, &rest[..rest.len().min(TEXT_MOST)])
+    // as many bytes of the text as the other programs read
+    show(rt, &rule, &rest[..rest.len().min(TEXT_LIMIT)])
 }
 
 fn main(rt: HostRuntime) -> io::Result<()> {

@@ -29,7 +29,7 @@ pub fn parse(heap: Global, input: &[u8]) -> Result<(Request, &[u8]), Unread>
     ensures { IfOk result (λ q. (n : ℕ) × (n ≤ length input.now) × (q.1.now ≡ drop n input.now)) }
 {
     let end = first_line(input).ok_or(Unread::NoRule)?;
-    let line = std::str::from_utf8(&input[..end]).map_err(|_| Unread::NoRule)?;
+    let line = std::str::from_utf8(&input[..end])?;
     let request = Request::parse(heap, line)?;
     if request.layers.len() > LAYERS_MOST || line.split(' ').any(is_padded) {
         return Err(Unread::NoRule);
