@@ -21,6 +21,7 @@ and the status is 1 where M is not 0.
 """
 
 import argparse
+import itertools
 import os
 import random
 import shutil
@@ -39,7 +40,9 @@ import tables
 import texts
 from find_cases import PAGE
 
-PAGES = os.path.join(os.path.dirname(os.path.abspath(__file__)), "pages")
+HERE = os.path.dirname(os.path.abspath(__file__))
+PAGES = os.path.join(HERE, "pages")
+SAMPLE = os.path.join(HERE, "..", "sample", "page.txt")
 TIME_LIMIT = 30  # seconds that one run may take
 TOLD = 10  # this many differences are told in full and saved
 SHORT = 60  # bytes of a text at which every place is asked for, and every wall is tried
@@ -215,7 +218,9 @@ def kind_of(program, output):
     if output == b"no rule\n":
         return "no rule"
     if program == "inspect":
-        return "accepted, %s" % ("no sure pair" if output.endswith(b" sure 0\n") else "sure pairs")
+        counts, verdict = output.split(b"\n")[:2]
+        return "accepted, %s, %s" % ("no sure pair" if counts.endswith(b" sure 0") else "sure pairs",
+                                     "steady" if verdict == b"steady" else "not steady")
     if program == "walls":
         found = output.split(b"\n")[1].count(b" ")
         return "accepted, %s" % ("several walls" if found > 1 else "one wall or none")
@@ -372,12 +377,17 @@ def fixed_inspect(comparison):
     comparison.case("inspect", "bytes on standard input", tables.school(), b"rule table\n" + PAGE)
     for name, table, _ in edges.edges():
         comparison.case("inspect", "edge: " + name, table)
+    # One line each is stated by hand, the other is what programs.py says.
     for name, table, number in edges.sure():
         counts = breaks.accept(table)
-        comparison.case("inspect", "sure: " + name, table, expected=b"states %d classes %d sure %d\n"
-                        % (counts.states, counts.classes, number))
-    for name, table, _ in edges.steady():
-        comparison.case("inspect", "steady: " + name, table)
+        first = b"states %d classes %d sure %d" % (counts.states, counts.classes, number)
+        comparison.case("inspect", "sure: " + name, table, expected=first + b"\n" + programs.steady_line(counts))
+    for name, table, verdict in edges.steady():
+        first = programs.inspect(table).split(b"\n")[0]
+        second = b"steady" if verdict is None else b"refused %d part %d place %d" % verdict
+        comparison.case("inspect", "steady: " + name, table, expected=first + b"\n" + second + b"\n")
+    for number, table in enumerate(edges.small_backward()):
+        comparison.case("inspect", "small backward table %d" % number, table)
 
 
 # First lines of another make, and what follows them.
@@ -411,14 +421,66 @@ NO_RULE = [
     b"rule table joint 4:\n",
     # Leading zeros: the number is not told in decimal as numbers are told here.
     b"rule table joint 045\n", b"rule table joint 00\n", b"rule table tail 0032\n",
-    # More than two layers.
-    b"rule table joint 45 tail 32 joint 45\n", b"rule line tail 10 tail 10 tail 10\n",
-    b"rule table joint 255 joint 255 joint 255\n", b"rule table joint 45 tail 32 joint 45 tail 32\n",
-    b"rule line" + b" joint 13" * 6 + b"\n", b"rule table" + b" joint 45" * 6 + b"\n",
+    # A layer after others that is none.
+    b"rule table joint 45 tail 32 joint\n", b"rule table joint 45 tail 32 joint \n",
+    b"rule table joint 45 tail 32 joint 256\n", b"rule table joint 45 tail 32 joint 045\n",
+    b"rule table joint 45 tail 32  joint 45\n", b"rule table joint 45 tail 32 joint 45 \n",
+    b"rule line tail 10 tail 10 tails 10\n", b"rule line tail 10 tail 10 tail 10 10\n",
+    b"rule line joint 045 tail 10 tail 10\n", b"rule line tail 10 table joint 10 line\n",
+    b"rule line" + b" tail 0" * 6 + b" tail 00\n", b"rule line" + b" tail 0" * 6 + b" tail\n",
+    # Layers that pass the 64 bytes of a line with its LF: by one byte, and by many. (`session` takes such lines.)
+    b"rule table" + b" joint 45" * 6 + b"\n", b"rule line" + b" joint 13" * 5 + b" joint 130\n",
+    b"rule line" + b" tail 0" * 5 + b" joint 100 joint 100\n",
+    b"rule table" + b" tail 0" * 4 + b" joint 0 joint 0 joint 145\n",
+    b"rule line" + b" tail 0" * 8 + b"\n", b"rule table" + b" tail 0" * 8 + b"\n", b"rule line" + b" joint 13" * 6,
+    b"rule table" + b" joint 45 tail 32" * 200 + b"\n",
     # Lines of enormous length, closed or not.
     b"x" * 20000 + b"\n", b"x" * 20000, b"rule table" + b" " * 100000 + b"\n", b"rule line tail 32" + bytes(70000),
     b"rule table joint " + b"1" * 16384 + b"\n", b"rule table" * 3000 + b"\n", b"rule table " * 8000,
 ]
+
+
+# First lines with as many layers as they have room for. Those of the first three have 64 bytes with the LF.
+MANY_LAYERS = [
+    b"rule line" + b" joint 13" * 6, b"rule line" + b" tail 0" * 5 + b" joint 10 joint 100",
+    b"rule table" + b" tail 0" * 4 + b" joint 0 joint 0 joint 45",
+    b"rule line" + b" tail 0" * 7, b"rule table" + b" tail 0" * 7, b"rule table" + b" joint 9" * 5 + b" tail 9",
+    b"rule line tail 10 joint 10 tail 45 joint 97 tail 13 joint 45",
+    b"rule table tail 116 joint 45 tail 32 joint 44 tail 99",
+]
+
+
+def orders(*layers):
+    """Layers of a first line in every order, as bytes to be put behind its rule."""
+    return [b"".join(some) for some in itertools.permutations(layers)]
+
+
+def many_layers(comparison):
+    """What `walls` is tried with, with three layers and more."""
+    school = tables.school()
+    two = edges.two_byte({0x81: -1, 0x82: -2}, edges.words(1, 4) + bytes([1, 0, 3, 2] * 64))
+    lines = b"one\rtwo\r\r\nthree - \r-\r \n\r"
+    with open(SAMPLE, "rb") as file:
+        sample = file.read()
+
+    comparison.walls("the example with three layers", school, b"rule table joint 45 tail 32 tail 105\ncut- it",
+                     expected=b"runs 3 7\nwalls 0\n")
+    four = orders(b" tail 45", b" tail 44", b" joint 32", b" joint 45")
+    for layers in orders(b" joint 45", b" tail 32", b" tail 97") + four:
+        name = layers.decode("ascii")
+        for text in (PAGE, b"  -a-  b- -c", b"a - , -a", b""):
+            comparison.walls("school table," + name, school, b"rule table" + layers + b"\n" + text)
+    for layers in orders(b" tail 10", b" joint 13", b" tail 45") + orders(b" tail 13", b" joint 32", b" tail 32"):
+        comparison.walls("lines," + layers.decode("ascii"), None, b"rule line" + layers + b"\n" + lines)
+    for layers in orders(b" joint 129", b" tail 130", b" joint 32") + orders(b" tail 129", b" tail 32", b" joint 45"):
+        text = b"a\x81-\x81\x81 \x82- \x82\x82-b\x82 \x81"
+        comparison.walls("two-byte text," + layers.decode("ascii"), two, b"rule table" + layers + b"\n" + text)
+    for line in MANY_LAYERS:
+        name = "%d layers" % (line.count(b" ") // 2)
+        for text in (PAGE, lines, sample, b"", b"\0\0a\0-\0\0", edges.TEXT, (PAGE * 440)[:16383], PAGE * 500):
+            comparison.walls(name, school, line + b"\n" + text)
+        comparison.walls(name + ", refused table", tables.big_file(324, 271), line + b"\n" + PAGE)
+    comparison.walls("a line of 64 bytes in pieces", school, MANY_LAYERS[2] + b"\n" + PAGE, pieces=True)
 
 
 def fixed_walls(comparison):
@@ -450,6 +512,8 @@ def fixed_walls(comparison):
         comparison.walls("joint %d" % byte, school, b"rule table joint %d\n" % byte + text)
         comparison.walls("tail %d" % byte, school, b"rule table tail %d\n" % byte + text)
         comparison.walls("two layers with %d" % byte, school, b"rule table joint %d tail %d\n" % (byte, byte) + text)
+
+    many_layers(comparison)
 
     # Long texts.
     for size in (16382, 16383, 16384, 16385, 32768, 70000):
@@ -486,10 +550,11 @@ def fixed_walls(comparison):
 
     # The tables at the edges: those that are accepted, each with another kind of layers, and of the others a third.
     stacks = [b"", b" joint 45", b" tail 32", b" joint 129 joint 45", b" joint 45 tail 129", b" tail 32 joint 45",
-              b" tail 32 tail 45"]
+              b" tail 32 tail 45", b" tail 129 joint 45 tail 97", b" joint 120 tail 45 joint 32 tail 130"]
     for number, (name, table, verdict) in enumerate(edges.edges()):
         if verdict is None or number % 3 == 0:
-            comparison.walls("edge: " + name, table, b"rule table%s\n" % stacks[number % 7] + edges.TEXT)
+            layers = stacks[number % len(stacks)]
+            comparison.walls("edge: " + name, table, b"rule table%s\n" % layers + edges.TEXT)
     for name, table, _ in edges.sure():
         comparison.walls("sure: " + name, table, b"rule table\n" + edges.TEXT * 2)
 

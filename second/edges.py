@@ -3,8 +3,11 @@
 edges() lists (name, table, verdict): the verdict is stated here by hand, None where the table is accepted and
 (number, part, place) where it is refused. TEXT is a text that all of them can be tried with. sure() lists accepted
 tables (name, table, number) for docs/RULES.md, with the number of their sure pairs, stated by hand as well; steady()
-lists accepted tables (name, table, verdict) for docs/FIND.md, with the verdict of the steady check.
+lists accepted tables (name, table, verdict) for docs/FIND.md, with the verdict of the steady check. small_backward() is
+every backward table of a small make, with no verdict: what is compared there is compared with no case in mind.
 """
+
+import itertools
 
 import tables
 from tables import word
@@ -444,16 +447,36 @@ def steady():
     The school table's backward codes are at 280 (state 1), 284 (state 2, always with a mark on what was read last) and
     288 (state 3, with no mark).
     """
-    # All pairs are sure but (1, 1), and no character of a text has class 1. The backward codes are at 292 and 294.
+    # All pairs are sure but (1, 1), and no character of a text has class 1. The backward codes are at 292 and 294, and
+    # with three rows at 294, 296 and 298.
     forward = tables.state_table(2, [[4, 6], [128, 128], [128, 132]])
 
     def small(*rows):
         """A table with these backward rows."""
         return of_parts([("class", bytes(256)), ("forward", forward), ("backward", tables.state_table(2, rows))])
 
+    def stairs_of(first, last, pair=((4,), (6,), (128,))):
+        """A table of one class, whose pair (0, 0) is not sure unless other forward rows are given. Of its 63 backward
+        codes the first and the last are told, and each between leads to the next; the last is at 473."""
+        between = [[2 * (state + 1)] for state in range(2, 63)]
+        return of_parts([("class", bytes(256)), ("forward", tables.state_table(1, pair)),
+                         ("backward", tables.state_table(1, [[first]] + between + [[last]]))])
+
+    many_classes = [value & 127 for value in range(256)]
+    letter_hyphen = with_byte(SCHOOL, 286, 0)
     return [
         ("school table", SCHOOL, None),
-        ("letter, hyphen, exit", with_byte(SCHOOL, 286, 0), (8, 2, 286)),
+        ("letter, hyphen, exit", letter_hyphen, (8, 2, 286)),
+        # What the backward scan does not look at: doBackup, flags2, and bytes past length.
+        ("unsteady, doBackup above every place", with_word(letter_hyphen, 12, 32767), (8, 2, 286)),
+        ("unsteady, doBackup below 0", with_word(letter_hyphen, 12, -1), (8, 2, 286)),
+        ("unsteady, bytes past length", letter_hyphen + bytes(20), (8, 2, 286)),
+        ("steady, two-byte text", two_byte({0x81: -1, 0x82: -2}, words(1, 4) + bytes(256)), None),
+        ("unsteady, two-byte text", with_byte(two_byte({0x81: -1, 0x82: -2}, words(1, 4) + bytes(256)), 286, 0),
+         (8, 2, 286)),
+        # The backward table's 20 bytes are the last: the code that is at 286 in the school table is 14 bytes into it.
+        ("steady, as far behind as can be", big([("backward", BACKWARD)]), None),
+        ("unsteady, as far behind as can be", with_byte(big([("backward", BACKWARD)]), 32761, 0), (8, 2, 32761)),
         ("other before anything, exit", with_byte(SCHOOL, 284, 0), None),
         ("letter before letter, exit", with_byte(SCHOOL, 285, 0), (8, 2, 285)),
         ("two such exits", edit(SCHOOL, (285, bytes(2))), (8, 2, 285)),
@@ -477,7 +500,36 @@ def steady():
         ("a mark that one class makes unsure, exit at once", small([128, 128], [0, 0]), (8, 2, 293)),
         ("an unsure mark is kept, exit by an earlier code", small([128, 132], [0, 4]), (8, 2, 294)),
         ("an unsure mark is replaced by the exit's own", small([128, 132], [128, 4]), None),
+        ("an unsure mark and no exit", small([132, 132], [4, 4]), None),
+        # The exit at 299 comes with the second character, that at 297 with the third: a mark on class 1 of its own.
+        ("the first by its place comes later", small([6, 134], [0, 128], [4, 0]), (8, 2, 297)),
+        ("the later one does no harm", small([6, 134], [0, 0], [4, 0]), (8, 2, 299)),
+        # From state 3 an unsure mark leads to state 2, which marks again whatever comes.
+        ("an unsure mark is replaced on the way", small([4, 134], [134, 134], [0, 4]), None),
+        ("an unsure mark is replaced but before one class", small([4, 134], [134, 0], [0, 4]), (8, 2, 297)),
+        ("many steps after an unsure mark", stairs_of(132, 0), (8, 2, 473)),
+        ("many steps with no mark", stairs_of(4, 0), None),
+        ("many steps to a mark of the exit", stairs_of(4, 128), (8, 2, 473)),
+        ("many steps round and round", stairs_of(132, 2), None),
+        ("many steps after a sure mark", stairs_of(132, 0, pair=((4,), (128,), (128,))), None),
+        # Each backward exit of these marks; the first has all pairs sure, the other all but (127, 127).
+        ("128 classes, all marks sure", plain(128, [[4] * 128] + [[128] * 128 for _ in range(62)], many_classes), None),
+        ("128 classes, one mark unsure",
+         plain(128, [[4] * 127 + [6], [128] * 128, [128] * 127 + [132]], many_classes), (8, 2, 535)),
     ]
+
+
+def small_backward():
+    """Every table with two backward rows of one class or of two, a list of tables. With one class, the pair (0, 0) is
+    sure in half of them; with two, (0, 1) is not sure and the others are."""
+    codes = [mark + 2 * state for mark in (0, 128) for state in range(3)]
+    out = []
+    for classes, forward in ((1, [[4], [128]]), (1, [[4], [6], [128]]), (2, [[4, 6], [128, 134], [128, 128]])):
+        entries = bytes(value % classes for value in range(256))
+        for found in itertools.product(codes, repeat=2 * classes):
+            out.append(of_parts([("class", entries), ("forward", tables.state_table(classes, forward)),
+                                 ("backward", tables.state_table(classes, [found[:classes], found[classes:]]))]))
+    return out
 
 
 def edges():

@@ -98,8 +98,13 @@ def pages():
         ("school-joint-over-tail", school, BOTH, b"rule table tail 32 joint 45"),
         ("school-tail-over-joint", school, BOTH, b"rule table joint 45 tail 32"),
         ("school-two-joints", school, BOTH, b"rule table joint 45 joint 10"),
+        # 3 7: the runs meet at 3, 4 and 5, and at 4 and 5 a layer joins them.
+        ("school-three-layers", school, b"cut- it", b"rule table joint 45 tail 32 tail 105"),
+        ("school-five-layers", school, BOTH, b"rule table tail 120 joint 10 tail 121 joint 45 tail 116"),
         ("line", school, LINES, b"rule line"),
         ("line-two-tails", school, LINES, b"rule line tail 10 tail 45"),
+        # 64 bytes with the LF.
+        ("line-many-layers", school, LINES, b"rule line tail 10 joint 101 joint 45 tail 98 joint 255 tail 116"),
         ("school-prose", school, PROSE),
         ("school-empty", school, b""),
         ("school-one-byte", school, b"-"),
@@ -111,6 +116,8 @@ def pages():
         # The layers look at bytes: 81 also as a second byte, and 45 and 32 as second bytes too.
         ("two-layers", alone, b"\x81\x81\x81-b\x81 \x81\x81 \x81\x81-\x81-\x81 a-\x81",
          b"rule table joint 45 tail 129"),
+        ("two-four-layers", alone, b"\x81\x81\x81-b\x81 \x81\x81 \x81\x81-\x81-\x81 a-\x81",
+         b"rule table tail 97 joint 45 tail 98 joint 129"),
         ("two-four-bytes", alone, b"\x81\x81\x81\x41", b"rule table"),
         ("two-first-at-end", odd_class, b"a\x81", b"rule table"),
         # Its steady check refuses it: find at 3 gives 3-6.

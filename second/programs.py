@@ -65,7 +65,17 @@ def inspect(table_bytes):
         table = accept(table_bytes[:TABLE_MOST])
     except Refused as refused:
         return refusal_line(refused)
-    return b"states %d classes %d sure %d\n" % (table.states, table.classes, len(table.sure_pairs()))
+    counts = table.states, table.classes, len(table.sure_pairs())
+    return b"states %d classes %d sure %d\n" % counts + steady_line(table)
+
+
+def steady_line(table):
+    """What the steady check says of an accepted table, as a line."""
+    try:
+        finds.try_steady(table)
+    except Refused as refused:
+        return refusal_line(refused)
+    return b"steady\n"
 
 
 # find
@@ -96,8 +106,7 @@ def find_line(table, text, argument):
 
 LAYERS = {b"joint": Joint, b"tail": Tail}
 BYTES = {b"%d" % value: value for value in range(256)}  # a byte in decimal, without leading zeros
-RULE_MOST = 64  # the most bytes that are read of a first line of `walls`, its LF among them
-LAYERS_MOST = 2  # the most layers that a first line of `walls` names
+RULE_MOST = 64  # the most bytes that a first line of `walls` has, its LF among them
 
 
 def byte_of(digits):
@@ -140,8 +149,8 @@ def walls(table_bytes, stdin_bytes):
     The first line is judged before all else. The table counts only where the line names it.
     """
     line, closed, text = stdin_bytes.partition(b"\n")
-    found = named(line) if closed else None
-    if found is None or len(found[1]) > LAYERS_MOST:
+    found = named(line) if closed and len(line) < RULE_MOST else None
+    if found is None:
         return b"no rule\n"
     lowest, layers = found
     text = text[:TEXT_MOST + 1]

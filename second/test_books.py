@@ -4,6 +4,7 @@ and the program held against itself on random tables, texts and calls.
     python3 second/test_books.py
 """
 
+import itertools
 import random
 
 import backward
@@ -41,8 +42,52 @@ def steady_examples():
     same(refusal(finds.try_steady, breaks.accept(school_with(286, 0))), (8, 2, 286))
     for name, table, verdict in edges.steady():
         same((name, refusal(finds.try_steady, breaks.accept(table))), (name, verdict))
-    same(programs.inspect(school_with(286, 0)), lines(b"states 6 classes 4 sure 9"))
+    same(programs.inspect(SCHOOL), lines(b"states 6 classes 4 sure 9", b"steady"))
+    same(programs.inspect(school_with(286, 0)), lines(b"states 6 classes 4 sure 9", b"refused 8 part 2 place 286"))
     same(programs.inspect(school_with(310, 6)), lines(b"refused 7 part 3 place 312"))
+
+
+def exits_of_rows(table, size):
+    """The places of the backward codes by which a row of so many classes, or the beginning of one, brings the scan to
+    exit with an unsure last mark: each row is read and judged by itself, in the words of docs/FIND.md."""
+    found = set()
+    sure = table.sure_pairs()
+    for row in itertools.product(range(table.classes), repeat=size):
+        state, last = 1, None
+        for at, char_class in enumerate(row):
+            place = table.backward_code_place(state, char_class)
+            marks, state = table.backward_code(state, char_class)
+            if marks:
+                last = at
+            if state == 0:
+                if last == at:
+                    unsure = any((before, char_class) not in sure for before in range(table.classes))
+                else:
+                    unsure = last is not None and (row[last + 1], row[last]) not in sure
+                if unsure:
+                    found.add(place)
+                break
+    return found
+
+
+def steady_against_rows():
+    """The steady check against all rows that are not long. Of a small table no exit needs a longer row than 10: there
+    are two states, and five things to know of the last mark."""
+    verdicts = set()
+    for bytes_of_table in edges.small_backward():
+        table = breaks.accept(bytes_of_table)
+        places = exits_of_rows(table, 10)
+        same(finds.unsure_exits(table), places)
+        verdicts.add(min(places, default=None))
+    # The codes are at 289 and 290 for one class with no sure pair, and at 292 to 295 for two classes. Each is told of
+    # some table; where the only pair of one class is sure, none is.
+    same(verdicts, {None, 289, 290, 292, 293, 294, 295})
+    few = 0
+    for rng, table in accepted_tables(200, "rows"):
+        if table.classes <= 4:
+            few += 1
+            same(exits_of_rows(table, 5) <= finds.unsure_exits(table), True)
+    same(few >= 20, True)
 
 
 def find_examples():
@@ -217,6 +262,7 @@ def window(book, old, numbers, place, answer):
 def main():
     """All tests."""
     steady_examples()
+    steady_against_rows()
     find_examples()
     book_examples()
     session_examples()

@@ -3,6 +3,7 @@
     python3 second/test_breaks.py
 """
 
+import itertools
 import os
 
 import breaks
@@ -46,6 +47,29 @@ def two_byte_table(entries, auxiliary):
     for value, entry in entries.items():
         table[16 + value] = entry & 255
     return bytes(table)
+
+
+def at_once(lowest, layers, text):
+    """Runs and walls under layers that are all asked at once, at each place where runs below meet."""
+    def kept(place):
+        """Whether no layer joins the runs that meet at a place."""
+        return all(text[place - 1 if kind is breaks.Joint else place] != byte for kind, byte in layers)
+
+    stops = [stop for _, stop in lowest.cutting(text) if stop == len(text) or kept(stop)]
+    return list(zip([0] + stops, stops)), [wall for wall in lowest.walls(text) if wall == 0 or kept(wall)]
+
+
+def layers_at_once(table):
+    """Layers one over the other, in any order, do what all of them do at once."""
+    text = b"re-cut -  it- then -- x -\n-y  - "
+    kinds = [(breaks.Joint, 45), (breaks.Tail, 32), (breaks.Joint, 32), (breaks.Tail, 45), (breaks.Joint, 10)]
+    cuttings = set()
+    for size in range(6):
+        for layers in itertools.permutations(kinds, size):
+            rule = programs.stacked(table, layers)
+            same((rule.cutting(text), rule.walls(text)), at_once(table, layers, text))
+            cuttings.add(tuple(rule.cutting(text)))
+    same(len(cuttings) >= 10, True)
 
 
 def main():
@@ -150,6 +174,7 @@ def main():
     same(breaks.Joint(tail, 45).cutting(b"a - b"), [(0, 2), (2, 4), (4, 5)])
     same(breaks.Joint(tail, 32).cutting(b"a - b"), [(0, 5)])
     same(breaks.Joint(tail, 32).walls(b"a - b"), [0])
+    layers_at_once(table)
 
     # Lines, and layers over them.
     line = breaks.Line()
@@ -177,7 +202,7 @@ def main():
         same((rule.cutting(b""), rule.walls(b"")), ([], []))
 
     # `inspect` and `walls`.
-    same(programs.inspect(school), b"states 6 classes 4 sure 9\n")
+    same(programs.inspect(school), b"states 6 classes 4 sure 9\nsteady\n")
     same(programs.inspect(b""), b"refused 1 part 0 place 0\n")
     same(programs.inspect(tables.big_file(100000)), programs.inspect(school))
     same(programs.walls(school, b"rule table\nre-cut it"), b"runs 6 7 9\nwalls 0 6 7\n")
@@ -186,6 +211,15 @@ def main():
     same(programs.walls(school, b"rule table tail 32\nre-cut it"), b"runs 7 9\nwalls 0 7\n")
     same(programs.walls(b"", b"rule line\n" + lines), b"runs 4 8 9 15\nwalls 0 4 8 9\n")
     same(programs.walls(b"", b"rule line tail 10 joint 13\n" + lines), b"runs 15\nwalls 0\n")
+    same(programs.walls(school, b"rule table joint 45 tail 32 tail 105\ncut- it"), b"runs 3 7\nwalls 0\n")
+    same(programs.walls(school, b"rule table joint 45 joint 45 joint 45\ncut- it"), b"runs 3 5 7\nwalls 0 5\n")
+    same(programs.walls(school, b"rule table joint 116 joint 32 tail 99\nre-cut it"), b"runs 9\nwalls 0\n")
+    same(programs.walls(school, b"rule table tail 120 joint 120 tail 99 joint 9\nre-cut it"),
+         b"runs 6 7 9\nwalls 0 6 7\n")
+    same(programs.walls(b"", b"rule line tail 10 tail 116 joint 101\n" + lines), b"runs 8 15\nwalls 0 8\n")
+    same([len(line) for line in compare.MANY_LAYERS[:3]], [63] * 3)
+    for line in compare.MANY_LAYERS:
+        same(programs.walls(school, line + b"\n"), b"runs\nwalls\n")
     same(programs.walls(school, b"rule table\n"), b"runs\nwalls\n")
     same(programs.walls(school, b"rule table\n\n"), b"runs 1\nwalls 0\n")
     same(programs.walls(school, b"rule table\n" + bytes(20000)), b"refused 9 part 4 place 16384\n")

@@ -74,15 +74,13 @@ def line_text(rng):
     return bytes(rng.choice(values) for _ in range(size))
 
 
-LAYER_KINDS = [(), (breaks.Joint,), (breaks.Tail,), (breaks.Joint, breaks.Joint), (breaks.Joint, breaks.Tail),
-               (breaks.Tail, breaks.Joint), (breaks.Tail, breaks.Tail)]
-
-
 def random_layers(rng, rule, text, joining=0.75):
-    """None, one or two layers for a rule, lowest first, each its class of breaks.py and its byte. As often as joining
-    says, the byte is one that joins runs of the text."""
+    """Some layers for a rule, lowest first, each its class of breaks.py and its byte: mostly none, one or two, and
+    at times about as many as a first line of `walls` has room for. As often as joining says, the byte is one that joins
+    runs of the text."""
     layers = []
-    for kind in rng.choice(LAYER_KINDS):
+    for _ in range(rng.choice([0, 1, 1, 2, 2, rng.randint(3, 4), rng.randint(3, 6)])):
+        kind = rng.choice([breaks.Joint, breaks.Tail])
         runs = rule.cutting(text[:400])
         if rng.random() < joining and len(runs) > 1:
             place = rng.choice(runs)[0] or runs[1][0]

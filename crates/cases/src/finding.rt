@@ -26,7 +26,7 @@ type Search = (
     &'static [(usize, usize)],
 );
 
-const SEARCHES: [Search; 9] = [
+const SEARCHES: [Search; 10] = [
     (
         &[],
         b"re-cut it",
@@ -52,7 +52,12 @@ const SEARCHES: [Search; 9] = [
         b"re-cut",
         &[(0, 6), (0, 6), (0, 6), (3, 6), (3, 6), (3, 6)],
     ),
-    // the same with doBackup 4, 3 and -1
+    // the same with doBackup above the page, at 4, at 3 and at -1
+    (
+        &[(286, 0), (13, 9)],
+        b"re-cut",
+        &[(0, 6), (0, 6), (0, 6), (0, 6), (0, 6), (0, 6)],
+    ),
     (
         &[(286, 0), (13, 4)],
         b"re-cut",

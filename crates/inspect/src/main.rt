@@ -1,13 +1,19 @@
-//! Tells of the break table in the file `table` how many states, classes and sure pairs it has, or its first fault.
+//! Tells of the break table in the file `table` how many states, classes and sure pairs it has and whether it is steady, or its
+//! first fault.
 #![tactic(auto)]
 
 use files::{Failure, read_table, tell};
+use refusals::Refusal;
 use std::io;
-use tables::examine;
+use tables::Table;
 
 fn inspect(rt: &HostRuntime) -> Result<(), Failure> {
-    let summary = examine(&read_table(rt)?)?;
+    let table = Table::accept(read_table(rt)?).map_err(Refusal::from)?;
+    let summary = table.summary();
     println!(rt; "{summary}")?;
+    // the refusal of an unsteady table ends the program, and its line comes second
+    table.check_steady()?;
+    println!(rt; "steady")?;
     Ok(())
 }
 

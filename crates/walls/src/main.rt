@@ -1,4 +1,4 @@
-//! Shows the runs and the walls that a rule makes of a text: lines or the table in the file `table`, under up to two layers.
+//! Shows the runs and the walls that a rule makes of a text: lines or the table in the file `table`, under any layers.
 #![tactic(auto)]
 
 mod request;

@@ -6,9 +6,6 @@ use std::alloc::Global;
 /// The most bytes that the first line may have, its LF with it.
 pub const FIRST_LIMIT: usize = 64;
 
-/// The most layers that may be asked for.
-const LAYERS_MOST: usize = 2;
-
 // The place of the first LF, if one comes soon enough.
 fn first_line(input: &[u8]) -> Option<usize>
     ensures { IfSome result (λ n. n < length input.now) }
@@ -31,7 +28,7 @@ pub fn parse(heap: Global, input: &[u8]) -> Result<(Request, &[u8]), Unread>
     let end = first_line(input).ok_or(Unread::NoRule)?;
     let line = std::str::from_utf8(&input[..end])?;
     let request = Request::parse(heap, line)?;
-    if request.layers.len() > LAYERS_MOST || line.split(' ').any(is_padded) {
+    if line.split(' ').any(is_padded) {
         return Err(Unread::NoRule);
     }
     Ok((request, &input[end + 1..]))

@@ -5,7 +5,7 @@ use files::Failure;
 use rules::{Page, Rule, check_length};
 use std::fmt;
 
-/// A word and then some places, each after a blank.
+// A word and then some places, each after a blank.
 #[derive(Drop)]
 struct Places<'a> {
     word: &'a str,
