@@ -8,11 +8,14 @@ use books::Book;
 use breaks::TableRule;
 use files::{read_table, read_text};
 use requests::number;
-use rules::write_cut_file;
+use rules::{LIMIT, write_cut_file};
 use std::{env, io};
 use steps::{look_once, put_twice, try_once};
 use tables::Table;
 use timing::time;
+
+// The bytes of a cut file of the longest text.
+const FILE_LIMIT: usize = 4 * LIMIT;
 
 // Times everything, and writes a line for each call.
 fn bench(rt: &HostRuntime, rounds: usize) -> io::Result<()> {
@@ -21,7 +24,7 @@ fn bench(rt: &HostRuntime, rounds: usize) -> io::Result<()> {
     };
     let rule = TableRule { table };
     let mut text = read_text(rt)?;
-    let mut buffer = [0; 65536];
+    let mut buffer = [0; FILE_LIMIT];
     let cut = time(rt, rounds, |_| {
         let _ = write_cut_file(&rule, &text, &mut buffer);
     })?;

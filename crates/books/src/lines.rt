@@ -23,7 +23,8 @@ impl fmt::Display for Change {
     }
 }
 
-// an arm for each kind's refusal: a function for any line or the refusal is no plainer, since a number alone has another line
+// an arm for each kind's refusal: one function for what prints itself, or the refusal, is no plainer, since an unpinned number
+// has the word `number` before it
 /// The line of what is answered, or of the refusal.
 impl fmt::Display for Answer {
     ghost output = { λ a. Some (answer_line a) };

@@ -6,7 +6,7 @@ use std::process::Abort;
 use std::test::Fail;
 use tables::{Summary, Table, examine};
 
-// What a call tells: its answer, or the number, part and place of its refusal. Both by numbers, as the documents tell them, so
+// What a call tells: its answer, or the number, part and place of its refusal; by numbers, as the documents tell refusals, so
 // that a changed number fails a test.
 pub type Told<T> = Result<T, (u8, u8, usize)>;
 
@@ -54,7 +54,7 @@ pub fn verdict(rt: &impl Abort, heap: Global, bytes: &[u8]) -> Result<Told<Count
     Ok(answer)
 }
 
-// What is told of a table after each of some edits.
+// Checks what is told of a table after each of some edits, each made on the table anew.
 pub fn verdicts(rt: &impl Abort, heap: Global, table: &[u8], cases: &[Edited]) -> Result<(), Fail> {
     for (edits, expected) in cases {
         let mut bytes = table.to_vec(heap)?;

@@ -194,7 +194,7 @@ const LARGEST_EDITED: [Edited; 5] = [
 
 // Appends a list of 64 words: 0, 128, 256 and so on.
 fn append_list(bytes: &mut Vec<u8>) -> Result<(), Fail> {
-    // the numbers are the values here
+    // the words are multiples of the numbers
     for k in 0..64u16 {
         bytes.extend_from_slice(&(128 * k).to_be_bytes())?;
     }

@@ -38,7 +38,7 @@ impl Seam for Vec<Layer> {
 }
 
 // a type of its own beside `Layered<Vec<Layer>, R>`: its runs are defined layer by layer, as a reader thinks of a pile, and
-// there by one seam; for one impl of both, each seam would have to tell runs and walls, with two laws
+// in `Layered` by one seam; for one impl of both, each seam would have to tell runs and walls, with two laws
 /// Any number of layers over a rule, the lowest first: each stands on what the ones below it make of the rule.
 #[derive(Drop)]
 pub struct Pile<R> {

@@ -1,7 +1,7 @@
 ghost use Rattle.std.specs.Prelude.{◌≡◌, ℕ, ◌+◌, ◌≤◌};
 ghost use Rattle.tables.specs.Fields.{place_of};
 
-/// A field of a table's header that holds an offset or a length: 16 bits, signed.
+/// A field of a table's header that holds an offset, doBackup or the table's length: 16 bits, signed.
 #[derive(Clone, Copy, PartialEq, Eq, Debug)]
 pub enum Field {
     /// The offset of the class table.

@@ -82,7 +82,7 @@ impl SteadyCheck<'_> {
     }
 }
 
-// The same, with the states that some row leads to once an unsure mark is set and the class after it is read.
+// A steady check, with the states that some row leads to once an unsure mark is set and the class after it is read.
 #[derive(Clone, Copy)]
 struct ExitCheck<'a> {
     check: SteadyCheck<'a>,

@@ -17,7 +17,7 @@ impl<R> Book<R> {
         }
     }
 
-    // Refuses that, and then a place that is not inside the text.
+    // Refuses a text of another length, and then a place that is not inside it.
     pub(super) fn check_place(&self, text: &[u8], place: usize) -> Result<(), Refusal>
         ensures { MatchResult result (λ _. (length text.now ≡ self.now.pins.size) × (place < length text.now)) (PlaceRefused self.now.pins.size (length text.now) place) }
     {

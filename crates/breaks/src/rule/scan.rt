@@ -43,8 +43,8 @@ impl Rule for TableRule {
         let mut at = place;
         let mut mark = place;
         let mut state = 1;
-        // a loop: each step is as long as the character read, and what is kept of it are two numbers, so that an iterator with a
-        // scan of its own would be no plainer
+        // a loop: each step is as long as the character read, and all that is kept of it is a state and a mark, so that an
+        // iterator with a scan of its own would be no plainer
         while at < text.len() {
             let here = characters.at(at);
             let code = forward.code(state, here.class);
