@@ -75,6 +75,7 @@ impl<'a> Passed<'a> {
         let forward = self.state_part(Direction::Forward);
         Layout {
             class_place: parts.class_table_place(),
+            code_start: forward.first_code_place(),
             state_total: forward.state_count(),
             class_total: parts.class_count(),
         }

@@ -7,7 +7,7 @@ ghost use Rattle.refusals.specs.declared.Direction.TheVariants.{Forward};
 ghost use Rattle.automata.specs.Machine.{Advances};
 ghost use Rattle.automata.specs.Reach.{Leads};
 ghost use Rattle.automata.specs.Sure.{Sure, halts, holds};
-ghost use Rattle.tables.specs.Layout.{class_table, states, classes, machine};
+ghost use Rattle.tables.specs.Layout.{class_table, states, classes, machine, code_place};
 ghost use Rattle.tables.specs.Checks.{first_failed, checks};
 
 use crate::verdict::Judgement;
@@ -24,6 +24,7 @@ pub struct Table {
     ghost none_first: { (a b : ℕ) → classes bytes.items ≤ a → holds judgement.sure.rows a b ≡ false },
     ghost none_second: { (a b : ℕ) → classes bytes.items ≤ b → holds judgement.sure.rows a b ≡ false },
     ghost class_place_is: { judgement.layout.class_place ≡ class_table bytes.items },
+    ghost code_start_is: { judgement.layout.code_start ≡ code_place bytes.items Forward 0 },
     ghost state_total_is: { judgement.layout.state_total ≡ states bytes.items Forward },
     ghost class_total_is: { judgement.layout.class_total ≡ classes bytes.items },
 }

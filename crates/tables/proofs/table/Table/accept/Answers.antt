@@ -19,6 +19,7 @@ invariant_of-result c =
       none_first = s.none_first;
       none_second = s.none_second;
       class_place_is = l.class_place_is;
+      code_start_is = l.code_start_is;
       state_total_is = l.state_total_is;
       class_total_is = l.class_total_is;
     }
