@@ -7,7 +7,7 @@ use Rattle.std.proofs.lemmas.Nat.Bits.{bit_at_set_same, bit_at_set_other}
 use Rattle.std.proofs.lemmas.Bool.{cases_eq}
 use Rattle.automata.specs.Sets.{Has}
 
-or_grows : (m x : ℕ) → m ≤ bit_or m x
+pub or_grows : (m x : ℕ) → m ≤ bit_or m x
 or_grows m x = omega (arith, or_add_and m x, and_le_r m x)
 
 pub bit_of_or : (m x k : ℕ) → bit_or m x / 2 ^ k % 2 ≡ bit_or (m / 2 ^ k % 2) (x / 2 ^ k % 2)

@@ -20,11 +20,12 @@ impl<'a> StateTable<'a> {
     }
 
     // that a state or a class is one of the table's is said by each call: a type for them would have to hold their table
-    /// The code of a state and a class.
+    /// The code of a state and a class, which is a byte.
     pub fn code(&self, state: usize, class: usize) -> Code
         requires { (1 ≤ state) × ((state < self.now.states) × (class < self.now.classes)) }
         ensures value { result ≡ code_of self.now state class }
         ensures below { next result < self.now.states }
+        ensures byte { result < 256 }
     {
         Code::new(self.codes[(state - 1) * self.classes + class])
     }
