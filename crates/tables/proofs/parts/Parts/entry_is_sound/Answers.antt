@@ -1,10 +1,10 @@
-use Rattle.std.proofs.Common.{◌≡◌, ℕ, suc, ◌-◌, ◌<◌, ◌≤◌, Bool, true, cond, ◌&&◌, List, sym, ap, ◌∙◌, arith, w16, SFits, rules}
+use Rattle.std.proofs.Common.{◌≡◌, ℕ, suc, ◌-◌, ◌<◌, ◌≤◌, Bool, true, cond, ◌&&◌, List, sym, ap, ◌∙◌, arith, ℤ, w16, SFits, rules}
 use lib.Signed.{non_neg}
 use Rattle.std.proofs.lemmas.Bool.{cond-true, cond-false}
 use Rattle.std.proofs.lemmas.Int.{to_z-of_z}
-use Rattle.tables.specs.Words.{signed8, even}
+use Rattle.tables.specs.Words.{signed8, within, even}
 use Rattle.tables.specs.Layout.{two_byte}
-use Rattle.tables.specs.Classes.{is_class, even_sound, odd_sound, entry_sound}
+use Rattle.tables.specs.Classes.{even_sound, odd_sound, entry_sound}
 use Rattle.tables.proofs.Numbers.{byte_above, byte_below}
 use Rattle.tables.proofs.parts.Parts.entry_is_sound.Goals as goal
 
@@ -23,7 +23,7 @@ same f a b m n e q = ap (λ (l : List ℕ). f l m) e ∙ ap (f b) q
 pub returns-in-Class : goal.returns-in-Class
 returns-in-Class c =
     let f : SFits w16 c.signed.result = search rules in
-    c.is_class.ensures ∙ ap (is_class c.args.self.now.bytes.now) (to_z-of_z w16 _ f ∙ c.signed.ensures)
+    c.is_within.ensures ∙ ap (λ (z : ℤ). within z 0 c.args.last) (to_z-of_z w16 _ f ∙ c.signed.ensures) ∙ ap (within (signed8 c.args.entry) 0) c.requires
     ∙ sym (cond-true (non_neg (signed8 c.args.entry)) _ _ (ap non_neg (byte_above c.args.entry c.in-Class.ensures.0)))
 
 pub returns-then-is_two_byte : goal.returns-then-is_two_byte
