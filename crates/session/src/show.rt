@@ -1,5 +1,6 @@
-ghost use Rattle.std.specs.Prelude.{Some};
-ghost use Rattle.session.specs.Lines.{text_line};
+ghost use Rattle.std.specs.Prelude.{◌≡◌, ◌<◌, [], ◌∷◌, false, Some};
+ghost use Rattle.std.specs.Fmt.{WritesOnOk, digit_glyph};
+ghost use Rattle.session.specs.Lines.{hex, text_line};
 
 use books::{Answer, Replay, Step};
 use std::{fmt, io};
@@ -25,6 +26,40 @@ struct TextLine<'a> {
     bytes: &'a [u8],
 }
 
+// A digit in hexadecimal.
+fn hex_digit(digit: u8) -> &'static str
+    requires { digit < 16 }
+    ensures { result.now ≡ digit_glyph false digit ∷ [] }
+{
+    match digit {
+        0 => "0",
+        1 => "1",
+        2 => "2",
+        3 => "3",
+        4 => "4",
+        5 => "5",
+        6 => "6",
+        7 => "7",
+        8 => "8",
+        9 => "9",
+        10 => "a",
+        11 => "b",
+        12 => "c",
+        13 => "d",
+        14 => "e",
+        _ => "f",
+    }
+}
+
+// Writes a byte in hexadecimal, always two digits. Digit by digit, and not by `{byte:02x}`: by that a session with one call on a
+// page of 16,383 bytes took a quarter more time.
+fn write_hex<W: fmt::Write>(f: &mut fmt::Formatter<W>, byte: u8) -> fmt::Result
+    ensures { WritesOnOk W.write_str_gives f.old result (hex byte) f.new }
+{
+    f.write_str(hex_digit(byte / 16))?;
+    f.write_str(hex_digit(byte % 16))
+}
+
 impl fmt::Display for TextLine<'_> {
     ghost output = { λ l. Some (text_line l.bytes.now) };
 
@@ -32,7 +67,7 @@ impl fmt::Display for TextLine<'_> {
         let blank = if self.bytes.is_empty() { "" } else { " " };
         write!(f, "text{blank}")?;
         for byte in self.bytes.iter().copied() {
-            write!(f, "{byte:02x}")?;
+            write_hex(f, byte)?;
         }
         Ok(())
     }
