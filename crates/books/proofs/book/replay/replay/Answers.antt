@@ -1,4 +1,5 @@
-use Rattle.std.proofs.Common.{vec_items, ◌∙◌}
+use Rattle.std.proofs.Common.{◌≡◌, ◌≤◌, [], length, vec_items, ◌∙◌, rules}
+use Rattle.pins.specs.Kept.{kept}
 use Rattle.books.specs.Plain.{opened, final}
 use Rattle.books.proofs.StepLaws.{each_put_upsets, replayed, end_true}
 use Rattle.books.proofs.FindLaws.{find_as_look, short_end}
@@ -23,9 +24,9 @@ returns g c =
     let steps = c.args.steps.now in
     let book = c.open.new.self in
     let last = c.carry_out.new.self in
-    let fresh = c.in_ok-open.ensures in
-    let same = fresh.rule ∙ c.new-book.ensures.rule in
-    let carried = replayed run parts rule book last text c.carry_out.new.text steps (vec_items c.in_ok-answers.answers) same fresh.pins.1 fresh.pins.2 c.in_ok-answers.ensures.told in
+    let fresh : (length text ≤ 16383) × (book.pins.size ≡ length text) × (kept book.pins ≡ []) = search rules in
+    let same = c.open.ensures.rule ∙ c.new-book.ensures.rule in
+    let carried = replayed run parts rule book last text c.carry_out.new.text steps (vec_items c.in_ok-answers.answers) same fresh.1 fresh.2 c.in_ok-answers.ensures.told in
     let end = end_true (run rule) (parts rule) (opened text) last c.carry_out.new.text steps (vec_items c.in_ok-answers.answers) carried in
     record {
       answered_as_the_plain_book = carried.answers_are;
@@ -33,5 +34,5 @@ returns g c =
       pins_are_true = end.1;
       outside_the_window_nothing_moves = each_put_upsets (run rule) (g.met.R.Rule.bounds rule) (parts rule) (g.met.R.Rule.joins rule) (opened text) steps;
       find_gives_what_look_gives = find_as_look (run rule) (final (run rule) (parts rule) (opened text) steps) (short_end (run rule) (parts rule) last c.carry_out.new.text _ carried.follows);
-      not_begun = fresh.pins.0;
+      not_begun = fresh.0;
     }
