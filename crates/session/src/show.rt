@@ -52,7 +52,7 @@ fn hex_digit(digit: u8) -> &'static str
 }
 
 // Writes a byte in hexadecimal, always two digits. Digit by digit, and not by `{byte:02x}`: by that a session with one call on a
-// page of 16,383 bytes took a quarter more time.
+// page of 16,383 bytes took 1.18 to 1.28 of the time.
 fn write_hex<W: fmt::Write>(f: &mut fmt::Formatter<W>, byte: u8) -> fmt::Result
     ensures { WritesOnOk W.write_str_gives f.old result (hex byte) f.new }
 {
